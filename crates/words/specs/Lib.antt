@@ -1,0 +1,6 @@
+-- What the contracts of this crate cite.
+pub mod Ranges
+pub mod Words
+pub mod Records
+pub mod Heads
+pub mod Books

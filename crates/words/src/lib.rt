@@ -1,0 +1,42 @@
+// Words of 32 bits, the records that they carry, and the book as a run of words: the lowest layer of the wire format.
+
+// The fault of a word.
+mod fault;
+pub use fault::WordFault;
+
+// The four fields of a word, and words among octets.
+mod word;
+
+// A module that holds a number, at its port.
+mod member;
+pub use member::Member;
+
+// A module that asks for a number.
+mod applicant;
+pub use applicant::Applicant;
+
+// The Module ID.
+mod module_id;
+pub use module_id::ModuleId;
+
+// Subscriptions and invitations.
+mod rule_kind;
+pub use rule_kind::RuleKind;
+mod rule;
+pub use rule::Rule;
+
+// Why a request was rejected.
+mod reason;
+pub use reason::Cause;
+pub use reason::Reason;
+pub use reason::Rejected;
+
+// The three words of a message.
+mod message_kind;
+pub use message_kind::MessageKind;
+mod head;
+pub use head::MessageHead;
+pub use head::content_length;
+
+// What is sought among the words of a book.
+mod sought;

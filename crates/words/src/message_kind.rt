@@ -1,0 +1,11 @@
+// The three kinds of message.
+
+#[derive(Clone, Copy, PartialEq, Eq, Debug)]
+pub enum MessageKind {
+    // To every member that subscribes.
+    Published,
+    // To every member of a domain that invites.
+    Announced,
+    // To one member that invites.
+    Private,
+}

@@ -1,0 +1,63 @@
+// A rule to and from its word.
+ghost use mathlib.Core.Path.{_≡_};
+ghost use mathlib.Core.Bool.{cond};
+ghost use Rattle.std.specs.Options.{mapped};
+ghost use Rattle.std.specs.declared.option.Option.the-variants.{Some, None};
+ghost use Rattle.words.specs.Ranges.{rule-valid};
+ghost use Rattle.words.specs.Records.{is-rule, is-rule-of, read-rule, rule-kind-number, rule-of, rule-value, rule-word, seen};
+use crate::fault::WordFault;
+use crate::rule::Rule;
+use crate::rule_kind::RuleKind;
+use crate::word::{kind_of, number_of, role_of, tail_of, word};
+
+const LAST_SUBJECT: u16 = 4_095;
+
+impl RuleKind {
+    // The kind of the word that carries such a rule.
+    fn number(&self) -> u8
+        ensures { λ r. ⌜ r ≡ rule-kind-number (now (self .entry)) ⌝ }
+    {
+        match self {
+            RuleKind::Subscription => 2,
+            RuleKind::Invitation => 3,
+        }
+    }
+}
+
+impl Rule {
+    // The rule of these fields, if it may stand.
+    pub fn new(kind: RuleKind, number: u8, role: u8, subject: u16) -> Option<Rule>
+        ensures { λ r. ⌜ mapped rule-value r ≡ cond (rule-valid kind number role subject) (Some (rule-of kind number role subject)) None ⌝ }
+    {
+        if number >= 1 && subject <= LAST_SUBJECT { Some(Rule { kind, number, role, subject }) } else { None }
+    }
+
+    pub fn to_word(&self) -> u32
+        ensures { λ r. ⌜ r ≡ rule-word (rule-value (now (self .entry))) ⌝ }
+    {
+        word(self.kind.number(), self.number, self.role, self.subject)
+    }
+
+    // The rule of this kind that the word carries; `at` is the word's place, for the fault.
+    pub fn from_word(kind: RuleKind, w: u32, at: usize) -> Result<Rule, WordFault>
+        ensures { λ r. ⌜ seen rule-value r ≡ read-rule kind w at ⌝ }
+    {
+        if is_rule_of(kind, w) {
+            Ok(Rule { kind, number: number_of(w), role: role_of(w), subject: tail_of(w) })
+        } else {
+            Err(WordFault { place: at })
+        }
+    }
+}
+
+fn is_rule_of(kind: RuleKind, w: u32) -> bool
+    ensures { λ r. ⌜ r ≡ is-rule-of kind w ⌝ }
+{
+    kind_of(w) == kind.number() && number_of(w) >= 1
+}
+
+pub(crate) fn is_rule(w: u32) -> bool
+    ensures { λ r. ⌜ r ≡ is-rule w ⌝ }
+{
+    is_rule_of(RuleKind::Subscription, w) || is_rule_of(RuleKind::Invitation, w)
+}

@@ -1,0 +1,9 @@
+// The two kinds of rule.
+
+#[derive(Clone, Copy, PartialEq, Eq, Debug)]
+pub enum RuleKind {
+    // Published messages are wanted.
+    Subscription,
+    // Announced and private messages are wanted.
+    Invitation,
+}
