@@ -1,5 +1,4 @@
 -- The three words of a message: whom it is for and about what, who sends it, its context. Assumes nothing.
---     HeadV                  what the three words say, but for the length of the content
 --     head-of ..             the head of these
 --     receiver-word h        kind, receiver's number, sender's role, subject
 --     sender-word h n        13, sender's number, priority (4 bits), length n of the content (16 bits)
@@ -12,23 +11,14 @@ use Rattle.std.specs.declared.option.Option.{Option}
 use Rattle.std.specs.declared.option.Option.the-variants.{Some, None}
 use Rattle.std.specs.declared.result.Result.{Result}
 use Rattle.std.specs.declared.result.Result.the-variants.{Ok, Err}
-use Rattle.words.specs.Ranges.{within}
+use Rattle.words.specs.Ranges.{within, head-valid}
 use Rattle.words.specs.Words.{word, kind-of, number-of, role-of, tail-of}
 use Rattle.words.specs.declared.fault.WordFault.{WordFault}
 use Rattle.words.specs.declared.message_kind.MessageKind.{MessageKind}
 use Rattle.words.specs.declared.message_kind.MessageKind.the-variants.{Published, Announced, Private}
 use Rattle.words.specs.declared.head.MessageHead.{MessageHead}
 
-pub record HeadV : Type 0 where
-  pub kind : MessageKind
-  pub receiver : ℕ
-  pub role : ℕ
-  pub subject : ℕ
-  pub sender : ℕ
-  pub priority : ℕ
-  pub context : ℕ
-
-abbrev pub head-of : MessageKind → ℕ → ℕ → ℕ → ℕ → ℕ → ℕ → HeadV
+abbrev pub head-of : MessageKind → ℕ → ℕ → ℕ → ℕ → ℕ → ℕ → MessageHead
 head-of k receiver r s sender p x = record
   { kind = k
   ; receiver = receiver
@@ -39,8 +29,8 @@ head-of k receiver r s sender p x = record
   ; context = x
   }
 
-abbrev pub head-value : MessageHead → HeadV
-head-value h = head-of (h .kind) (h .receiver) (h .role) (h .subject) (h .sender) (h .priority) (h .context)
+abbrev pub valid-head : MessageHead → Bool
+valid-head h = head-valid (h .receiver) (h .role) (h .subject) (h .sender) (h .priority) (h .context)
 
 abbrev pub kind-number : MessageKind → ℕ
 kind-number Published = 8
@@ -50,23 +40,23 @@ kind-number Private = 10
 abbrev pub message-kind : ℕ → Option MessageKind
 message-kind k = cond (eqb k 8) (Some Published) (cond (eqb k 9) (Some Announced) (cond (eqb k 10) (Some Private) None))
 
-abbrev pub receiver-word : HeadV → ℕ
+abbrev pub receiver-word : MessageHead → ℕ
 receiver-word h = word (kind-number (h .kind)) (h .receiver) (h .role) (h .subject)
 
-abbrev pub sender-word : HeadV → ℕ → ℕ
+abbrev pub sender-word : MessageHead → ℕ → ℕ
 sender-word h n = 13 * 268435456 + h .sender * 1048576 + h .priority * 65536 + n
 
-abbrev pub context-word : HeadV → ℕ
-context-word h = 14 * 268435456 + h .context
+abbrev pub context-of : ℕ → ℕ
+context-of w = w % 268435456
+
+abbrev pub context-word : MessageHead → ℕ
+context-word h = 14 * 268435456 + context-of (h .context)
 
 abbrev pub priority-of : ℕ → ℕ
 priority-of w = w / 65536 % 16
 
 abbrev pub content-length : ℕ → ℕ
 content-length w = w % 65536
-
-abbrev pub context-of : ℕ → ℕ
-context-of w = w % 268435456
 
 abbrev pub receiver-stands : ℕ → Bool
 receiver-stands w = within 1 255 (number-of w) && (within 1 255 (role-of w) && within 1 4095 (tail-of w))
@@ -78,7 +68,7 @@ abbrev pub context-stands : ℕ → Bool
 context-stands w = eqb (kind-of w) 14
 
 -- the first word that does not stand, by its octet in the frame
-abbrev pub read-head : MessageKind → ℕ → ℕ → ℕ → Result HeadV WordFault
+abbrev pub read-head : MessageKind → ℕ → ℕ → ℕ → Result MessageHead WordFault
 read-head k a b c =
     cond (not (receiver-stands a)) (Err (record { place = 0 }))
     (cond (not (sender-stands b)) (Err (record { place = 4 }))

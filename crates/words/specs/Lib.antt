@@ -4,3 +4,4 @@ pub mod Words
 pub mod Records
 pub mod Heads
 pub mod Books
+pub mod Runs

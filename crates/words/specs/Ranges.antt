@@ -1,4 +1,4 @@
--- The values that the fields of a record may have; the ghost fields of the records cite these. Assumes nothing.
+-- The values that the fields of a record may have. Assumes nothing.
 --     within low high n      n is low, high or between
 --     applicant-valid r p    a module of role r may ask for a number at port p
 --     module-valid n r       a module of number n and role r may exist
@@ -24,9 +24,9 @@ member-valid n r p = within 1 255 n && applicant-valid r p
 
 -- domain role 0 is every role, subject 0 every subject, for either kind
 abbrev pub rule-valid : RuleKind → ℕ → ℕ → ℕ → Bool
-rule-valid k n r s = within 1 255 n && (within 0 255 r && within 0 4095 s)
+rule-valid k n r s = within 1 255 n && (leb r 255 && leb s 4095)
 
 abbrev pub head-valid : ℕ → ℕ → ℕ → ℕ → ℕ → ℕ → Bool
 head-valid receiver r s sender p x =
     within 1 255 receiver
-    && (within 1 255 r && (within 1 4095 s && (within 1 255 sender && (within 1 15 p && within 0 268435455 x))))
+    && (within 1 255 r && (within 1 4095 s && (within 1 255 sender && (within 1 15 p && leb x 268435455))))

@@ -1,7 +1,7 @@
--- Members, applicants, rules and reasons as plain fields, to and from their words; the Module ID. Assumes nothing.
---     MemberV ..             the fields of a record, whatever they are
+-- Members, applicants, rules and reasons, to and from their words; the Module ID. Assumes nothing.
+--     Member ..             the fields of a record, whatever they are
 --     member-of ..           the record of these fields
---     member-value ..        the fields of a record of the code
+--     valid-member ..        whether a record may stand
 --     member-word ..         the word of a record
 --     is-member ..           whether a word carries such a record
 --     read-member w at ..    that record, or a fault at the word's place
@@ -28,53 +28,29 @@ use Rattle.words.specs.declared.reason.Rejected.the-variants.{Invite, Subscrib
 use Rattle.words.specs.declared.reason.Cause.{Cause}
 use Rattle.words.specs.declared.reason.Cause.the-variants.{RuleListFull}
 
-pub record MemberV : Type 0 where
-  pub number : ℕ
-  pub role : ℕ
-  pub port : ℕ
-
-pub record ApplicantV : Type 0 where
-  pub role : ℕ
-  pub port : ℕ
-
-pub record ModuleV : Type 0 where
-  pub number : ℕ
-  pub role : ℕ
-
-pub record RuleV : Type 0 where
-  pub kind : RuleKind
-  pub number : ℕ
-  pub role : ℕ
-  pub subject : ℕ
-
-abbrev pub member-of : ℕ → ℕ → ℕ → MemberV
+abbrev pub member-of : ℕ → ℕ → ℕ → Member
 member-of n r p = record { number = n; role = r; port = p }
 
-abbrev pub applicant-of : ℕ → ℕ → ApplicantV
+abbrev pub applicant-of : ℕ → ℕ → Applicant
 applicant-of r p = record { role = r; port = p }
 
-abbrev pub module-by : ℕ → ℕ → ModuleV
+abbrev pub module-by : ℕ → ℕ → ModuleId
 module-by n r = record { number = n; role = r }
 
-abbrev pub rule-of : RuleKind → ℕ → ℕ → ℕ → RuleV
+abbrev pub rule-of : RuleKind → ℕ → ℕ → ℕ → Rule
 rule-of k n r s = record { kind = k; number = n; role = r; subject = s }
 
-abbrev pub member-value : Member → MemberV
-member-value m = member-of (m .number) (m .role) (m .port)
+abbrev pub valid-member : Member → Bool
+valid-member m = member-valid (m .number) (m .role) (m .port)
 
-abbrev pub applicant-value : Applicant → ApplicantV
-applicant-value a = applicant-of (a .role) (a .port)
+abbrev pub valid-applicant : Applicant → Bool
+valid-applicant a = applicant-valid (a .role) (a .port)
 
-abbrev pub module-value : ModuleId → ModuleV
-module-value m = module-by (m .number) (m .role)
+abbrev pub valid-module : ModuleId → Bool
+valid-module m = module-valid (m .number) (m .role)
 
-abbrev pub rule-value : Rule → RuleV
-rule-value u = rule-of (u .kind) (u .number) (u .role) (u .subject)
-
--- what a call answered, with the fields of its record
-abbrev pub seen : {A B E : Type 0} → (A → B) → Result A E → Result B E
-seen f (Ok x) = Ok (f x)
-seen f (Err e) = Err e
+abbrev pub valid-rule : Rule → Bool
+valid-rule u = rule-valid (u .kind) (u .number) (u .role) (u .subject)
 
 abbrev pub rule-kind-number : RuleKind → ℕ
 rule-kind-number Subscription = 2
@@ -88,13 +64,13 @@ rejected-type Subscribe = 24
 abbrev pub cause-number : Cause → ℕ
 cause-number RuleListFull = 1
 
-abbrev pub member-word : MemberV → ℕ
+abbrev pub member-word : Member → ℕ
 member-word m = word 1 (m .number) (m .role) (m .port)
 
-abbrev pub applicant-word : ApplicantV → ℕ
+abbrev pub applicant-word : Applicant → ℕ
 applicant-word a = word 1 0 (a .role) (a .port)
 
-abbrev pub rule-word : RuleV → ℕ
+abbrev pub rule-word : Rule → ℕ
 rule-word u = word (rule-kind-number (u .kind)) (u .number) (u .role) (u .subject)
 
 abbrev pub reason-word : Reason → ℕ
@@ -120,13 +96,13 @@ is-reason w =
 abbrev pub read-if : {A : Type 0} → Bool → A → ℕ → Result A WordFault
 read-if b x at = cond b (Ok x) (Err (record { place = at }))
 
-abbrev pub read-member : ℕ → ℕ → Result MemberV WordFault
+abbrev pub read-member : ℕ → ℕ → Result Member WordFault
 read-member w at = read-if (is-member w) (member-of (number-of w) (role-of w) (tail-of w)) at
 
-abbrev pub read-applicant : ℕ → ℕ → Result ApplicantV WordFault
+abbrev pub read-applicant : ℕ → ℕ → Result Applicant WordFault
 read-applicant w at = read-if (is-applicant w) (applicant-of (role-of w) (tail-of w)) at
 
-abbrev pub read-rule : RuleKind → ℕ → ℕ → Result RuleV WordFault
+abbrev pub read-rule : RuleKind → ℕ → ℕ → Result Rule WordFault
 read-rule k w at =
     read-if (is-rule-of k w) (rule-of k (number-of w) (role-of w) (tail-of w)) at
 
@@ -138,14 +114,14 @@ abbrev pub module-id : ℕ → ℕ → ℕ → ℕ
 module-id n u r = n + 256 * u + 16777216 * r
 
 -- there is one unit, 0
-abbrev pub id-of : ModuleV → ℕ
+abbrev pub id-of : ModuleId → ℕ
 id-of m = module-id (m .number) 0 (m .role)
 
-abbrev pub module-of : MemberV → ModuleV
+abbrev pub module-of : Member → ModuleId
 module-of m = module-by (m .number) (m .role)
 
 abbrev pub is-module : ℕ → Bool
 is-module f = eqb (f / 256 % 65536) 0 && module-valid (f % 256) (f / 16777216)
 
-abbrev pub read-module : ℕ → Option ModuleV
+abbrev pub read-module : ℕ → Option ModuleId
 read-module f = cond (is-module f) (Some (module-by (f % 256) (f / 16777216))) None

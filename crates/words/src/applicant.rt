@@ -1,7 +1,4 @@
 // A module that asks for a number.
-ghost use mathlib.Core.Bool.{true};
-ghost use mathlib.Core.Path.{_≡_};
-ghost use Rattle.words.specs.Ranges.{applicant-valid};
 
 mod codec;
 
@@ -10,5 +7,4 @@ mod codec;
 pub struct Applicant {
     pub role: u8,
     pub port: u8,
-    ghost valid: { applicant-valid role port ≡ true },
 }

@@ -1,7 +1,4 @@
 // What the three words of a message say.
-ghost use mathlib.Core.Bool.{true};
-ghost use mathlib.Core.Path.{_≡_};
-ghost use Rattle.words.specs.Ranges.{head-valid};
 use crate::message_kind::MessageKind;
 
 mod codec;
@@ -19,5 +16,4 @@ pub struct MessageHead {
     pub sender: u8,
     pub priority: u8,
     pub context: u32,
-    ghost valid: { head-valid receiver role subject sender priority context ≡ true },
 }

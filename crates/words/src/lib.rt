@@ -40,3 +40,8 @@ pub use head::content_length;
 
 // What is sought among the words of a book.
 mod sought;
+// How many members and rules stand before a word of a book.
+mod tally;
+// A book as it stands in a frame.
+mod book_run;
+pub use book_run::BookRun;

@@ -1,7 +1,4 @@
 // The Module ID, by which frames refer to a module.
-ghost use mathlib.Core.Bool.{true};
-ghost use mathlib.Core.Path.{_≡_};
-ghost use Rattle.words.specs.Ranges.{module-valid};
 
 mod codec;
 
@@ -10,5 +7,4 @@ mod codec;
 pub struct ModuleId {
     pub number: u8,
     pub role: u8,
-    ghost valid: { module-valid number role ≡ true },
 }

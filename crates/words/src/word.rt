@@ -9,8 +9,13 @@ const KIND_STEP: u32 = 268_435_456;
 const NUMBER_STEP: u32 = 1_048_576;
 const ROLE_STEP: u32 = 4_096;
 
+// The kind of the word of a member, and of a module that asks to be one.
+pub(crate) const MEMBER_KIND: u8 = 1;
+pub(crate) const LAST_PORT: u16 = 15;
+pub(crate) const LAST_SUBJECT: u16 = 4_095;
+
 pub(crate) fn word(kind: u8, number: u8, role: u8, tail: u16) -> u32
-    requires { ⌜ kind < 16 ⌝ ∗ ⌜ tail < 4096 ⌝ }
+    requires { ⌜ kind < 15 ⌝ }
     ensures { λ r. ⌜ r ≡ word-by kind number role tail ⌝ }
 {
     kind as u32 * KIND_STEP + number as u32 * NUMBER_STEP + role as u32 * ROLE_STEP + tail as u32

@@ -1,34 +1,38 @@
 // An applicant to and from its word.
 ghost use mathlib.Core.Path.{_≡_};
 ghost use mathlib.Core.Bool.{cond};
-ghost use Rattle.std.specs.Options.{mapped};
 ghost use Rattle.std.specs.declared.option.Option.the-variants.{Some, None};
 ghost use Rattle.words.specs.Ranges.{applicant-valid};
-ghost use Rattle.words.specs.Records.{applicant-of, applicant-value, applicant-word, is-applicant, read-applicant, seen};
+ghost use Rattle.words.specs.Records.{applicant-of, applicant-word, is-applicant, read-applicant, valid-applicant};
 use crate::applicant::Applicant;
 use crate::fault::WordFault;
-use crate::word::{kind_of, number_of, role_of, tail_of, word};
-
-const KIND: u8 = 1;
-const LAST_PORT: u16 = 15;
+use crate::word::{LAST_PORT, MEMBER_KIND, kind_of, number_of, role_of, tail_of, word};
 
 impl Applicant {
     // The applicant of these fields, if it may ask.
     pub fn new(role: u8, port: u8) -> Option<Applicant>
-        ensures { λ r. ⌜ mapped applicant-value r ≡ cond (applicant-valid role port) (Some (applicant-of role port)) None ⌝ }
+        ensures { λ r. ⌜ r ≡ cond (applicant-valid role port) (Some (applicant-of role port)) None ⌝ }
     {
-        if role >= 1 && port >= 1 && port as u16 <= LAST_PORT { Some(Applicant { role, port }) } else { None }
+        let applicant = Applicant { role, port };
+        if applicant.is_valid() { Some(applicant) } else { None }
+    }
+
+    // Whether such a module may ask.
+    pub fn is_valid(&self) -> bool
+        ensures { λ r. ⌜ r ≡ valid-applicant (now (self .entry)) ⌝ }
+    {
+        self.role >= 1 && self.port >= 1 && self.port as u16 <= LAST_PORT
     }
 
     pub fn to_word(&self) -> u32
-        ensures { λ r. ⌜ r ≡ applicant-word (applicant-value (now (self .entry))) ⌝ }
+        ensures { λ r. ⌜ r ≡ applicant-word (now (self .entry)) ⌝ }
     {
-        word(KIND, 0, self.role, self.port as u16)
+        word(MEMBER_KIND, 0, self.role, self.port as u16)
     }
 
     // The applicant that the word carries; `at` is the word's place, for the fault.
     pub fn from_word(w: u32, at: usize) -> Result<Applicant, WordFault>
-        ensures { λ r. ⌜ seen applicant-value r ≡ read-applicant w at ⌝ }
+        ensures { λ r. ⌜ r ≡ read-applicant w at ⌝ }
     {
         if is_applicant(w) {
             Ok(Applicant { role: role_of(w), port: tail_of(w) as u8 })
@@ -41,5 +45,5 @@ impl Applicant {
 fn is_applicant(w: u32) -> bool
     ensures { λ r. ⌜ r ≡ is-applicant w ⌝ }
 {
-    kind_of(w) == KIND && number_of(w) == 0 && role_of(w) >= 1 && tail_of(w) >= 1 && tail_of(w) <= LAST_PORT
+    kind_of(w) == MEMBER_KIND && number_of(w) == 0 && role_of(w) >= 1 && tail_of(w) >= 1 && tail_of(w) <= LAST_PORT
 }

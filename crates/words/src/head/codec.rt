@@ -4,23 +4,20 @@ ghost use mathlib.Core.Bool.{cond};
 ghost use mathlib.Core.List.{[], _∷_};
 ghost use Prim.Native.Nat.{_<_};
 ghost use lib.ListN.{getD};
-ghost use Rattle.std.specs.Options.{mapped};
 ghost use Rattle.std.specs.declared.option.Option.the-variants.{Some, None};
 ghost use Rattle.words.specs.Ranges.{head-valid};
-ghost use Rattle.words.specs.Records.{seen};
 ghost use Rattle.words.specs.Words.{kind-of};
-ghost use Rattle.words.specs.Heads.{content-length, context-of, context-stands, context-word, head-of, head-value, kind-number, message-kind, priority-of, read-head, receiver-stands, receiver-word, sender-stands, sender-word};
+ghost use Rattle.words.specs.Heads.{content-length, context-of, context-stands, context-word, head-of, kind-number, message-kind, priority-of, read-head, receiver-stands, receiver-word, sender-stands, sender-word, valid-head};
 use crate::fault::WordFault;
 use crate::head::MessageHead;
 use crate::message_kind::MessageKind;
-use crate::word::{kind_of, number_of, role_of, tail_of, word};
+use crate::word::{LAST_SUBJECT, kind_of, number_of, role_of, tail_of, word};
 
 const SENDER_KIND: u8 = 13;
 const CONTEXT_KIND: u8 = 14;
 const PRIORITY_STEP: u32 = 65_536;
 const PRIORITIES: u32 = 16;
 const CONTEXTS: u32 = 268_435_456;
-const LAST_SUBJECT: u16 = 4_095;
 const LAST_PRIORITY: u8 = 15;
 
 impl MessageKind {
@@ -51,31 +48,40 @@ impl MessageKind {
 impl MessageHead {
     // The head of these fields, if a message may have it.
     pub fn new(kind: MessageKind, receiver: u8, role: u8, subject: u16, sender: u8, priority: u8, context: u32) -> Option<MessageHead>
-        ensures { λ r. ⌜ mapped head-value r ≡ cond (head-valid receiver role subject sender priority context) (Some (head-of kind receiver role subject sender priority context)) None ⌝ }
+        ensures { λ r. ⌜ r ≡ cond (head-valid receiver role subject sender priority context) (Some (head-of kind receiver role subject sender priority context)) None ⌝ }
     {
-        let named = receiver >= 1 && role >= 1 && sender >= 1;
-        let about = subject >= 1 && subject <= LAST_SUBJECT;
-        if named && about && priority >= 1 && priority <= LAST_PRIORITY && context < CONTEXTS {
-            Some(MessageHead { kind, receiver, role, subject, sender, priority, context })
-        } else {
-            None
-        }
+        let head = MessageHead { kind, receiver, role, subject, sender, priority, context };
+        if head.is_valid() { Some(head) } else { None }
+    }
+
+    // Whether a message may have this head.
+    pub fn is_valid(&self) -> bool
+        ensures { λ r. ⌜ r ≡ valid-head (now (self .entry)) ⌝ }
+    {
+        self.receiver >= 1
+            && self.role >= 1
+            && self.subject >= 1
+            && self.subject <= LAST_SUBJECT
+            && self.sender >= 1
+            && self.priority >= 1
+            && self.priority <= LAST_PRIORITY
+            && self.context < CONTEXTS
     }
 
     // The three words, for content of this length.
     pub fn to_words(&self, length: u16) -> [u32; 3]
-        ensures { λ r. ⌜ r ≡ receiver-word (head-value (now (self .entry))) ∷ sender-word (head-value (now (self .entry))) length ∷ context-word (head-value (now (self .entry))) ∷ [] ⌝ }
+        ensures { λ r. ⌜ r ≡ receiver-word (now (self .entry)) ∷ sender-word (now (self .entry)) length ∷ context-word (now (self .entry)) ∷ [] ⌝ }
     {
         [
             word(self.kind.number(), self.receiver, self.role, self.subject),
             word(SENDER_KIND, self.sender, 0, 0) + self.priority as u32 * PRIORITY_STEP + length as u32,
-            word(CONTEXT_KIND, 0, 0, 0) + self.context,
+            word(CONTEXT_KIND, 0, 0, 0) + self.context % CONTEXTS,
         ]
     }
 
     // The head that three words carry, the first one's kind being known; a fault has the octet of the first wrong word.
     pub fn from_words(kind: MessageKind, words: [u32; 3]) -> Result<MessageHead, WordFault>
-        ensures { λ r. ⌜ seen head-value r ≡ read-head kind (getD words 0 0) (getD words 1 0) (getD words 2 0) ⌝ }
+        ensures { λ r. ⌜ r ≡ read-head kind (getD words 0 0) (getD words 1 0) (getD words 2 0) ⌝ }
     {
         let [a, b, c] = words;
         if !receiver_stands(a) {

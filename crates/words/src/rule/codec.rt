@@ -1,16 +1,13 @@
 // A rule to and from its word.
 ghost use mathlib.Core.Path.{_≡_};
 ghost use mathlib.Core.Bool.{cond};
-ghost use Rattle.std.specs.Options.{mapped};
 ghost use Rattle.std.specs.declared.option.Option.the-variants.{Some, None};
 ghost use Rattle.words.specs.Ranges.{rule-valid};
-ghost use Rattle.words.specs.Records.{is-rule, is-rule-of, read-rule, rule-kind-number, rule-of, rule-value, rule-word, seen};
+ghost use Rattle.words.specs.Records.{is-rule, is-rule-of, read-rule, rule-kind-number, rule-of, rule-word, valid-rule};
 use crate::fault::WordFault;
 use crate::rule::Rule;
 use crate::rule_kind::RuleKind;
-use crate::word::{kind_of, number_of, role_of, tail_of, word};
-
-const LAST_SUBJECT: u16 = 4_095;
+use crate::word::{LAST_SUBJECT, kind_of, number_of, role_of, tail_of, word};
 
 impl RuleKind {
     // The kind of the word that carries such a rule.
@@ -27,20 +24,27 @@ impl RuleKind {
 impl Rule {
     // The rule of these fields, if it may stand.
     pub fn new(kind: RuleKind, number: u8, role: u8, subject: u16) -> Option<Rule>
-        ensures { λ r. ⌜ mapped rule-value r ≡ cond (rule-valid kind number role subject) (Some (rule-of kind number role subject)) None ⌝ }
+        ensures { λ r. ⌜ r ≡ cond (rule-valid kind number role subject) (Some (rule-of kind number role subject)) None ⌝ }
     {
-        if number >= 1 && subject <= LAST_SUBJECT { Some(Rule { kind, number, role, subject }) } else { None }
+        if may_stand(kind, number, role, subject) { Some(Rule { kind, number, role, subject }) } else { None }
+    }
+
+    // Whether such a rule may stand.
+    pub fn is_valid(&self) -> bool
+        ensures { λ r. ⌜ r ≡ valid-rule (now (self .entry)) ⌝ }
+    {
+        may_stand(self.kind, self.number, self.role, self.subject)
     }
 
     pub fn to_word(&self) -> u32
-        ensures { λ r. ⌜ r ≡ rule-word (rule-value (now (self .entry))) ⌝ }
+        ensures { λ r. ⌜ r ≡ rule-word (now (self .entry)) ⌝ }
     {
         word(self.kind.number(), self.number, self.role, self.subject)
     }
 
     // The rule of this kind that the word carries; `at` is the word's place, for the fault.
     pub fn from_word(kind: RuleKind, w: u32, at: usize) -> Result<Rule, WordFault>
-        ensures { λ r. ⌜ seen rule-value r ≡ read-rule kind w at ⌝ }
+        ensures { λ r. ⌜ r ≡ read-rule kind w at ⌝ }
     {
         if is_rule_of(kind, w) {
             Ok(Rule { kind, number: number_of(w), role: role_of(w), subject: tail_of(w) })
@@ -48,6 +52,12 @@ impl Rule {
             Err(WordFault { place: at })
         }
     }
+}
+
+fn may_stand(kind: RuleKind, number: u8, role: u8, subject: u16) -> bool
+    ensures { λ r. ⌜ r ≡ rule-valid kind number role subject ⌝ }
+{
+    number >= 1 && subject <= LAST_SUBJECT
 }
 
 fn is_rule_of(kind: RuleKind, w: u32) -> bool
