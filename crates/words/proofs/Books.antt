@@ -23,14 +23,14 @@ member-no-rule w h =
 -- a word that fits is one member more or one rule more, with room for it
 pub one-more : (xs : List ℕ) (k : ℕ) → fits xs k ≡ true
     → ((is-member (word-of xs k) ≡ true) × (is-rule (word-of xs k) ≡ false) × (members-before xs k < 15))
-      ⊎ ((is-member (word-of xs k) ≡ false) × (is-rule (word-of xs k) ≡ true) × (rules-before xs k < 200))
+    ⊎ ((is-member (word-of xs k) ≡ false) × (is-rule (word-of xs k) ≡ true) × (rules-before xs k < 200))
 one-more xs k h =
     let s : sits xs k (word-of xs k) ≡ true = and-parts (ascends xs k) _ h .1 in
     ⊎-elim
     (λ (m : is-member (word-of xs k) ≡ true). inl (m, member-no-rule (word-of xs k) m, ltb-true _ _ (and-parts _ _ (rw m at s) .0)))
     (λ (m : is-member (word-of xs k) ≡ false).
-      let p = and-parts (is-rule (word-of xs k)) _ (rw m at s) in
-      inr (m, p .0, ltb-true _ _ (and-parts _ _ (p .1) .0)))
+    let p = and-parts (is-rule (word-of xs k)) _ (rw m at s) in
+    inr (m, p .0, ltb-true _ _ (and-parts _ _ (p .1) .0)))
     (cases-bool (is-member (word-of xs k)))
 
 pub wrong-found : (xs : List ℕ) (k : ℕ) → first-wrong (fits xs) (words-in xs) ≡ Some k → Some k ≡ wrong-word xs
@@ -49,11 +49,11 @@ turn xs k m r i j w t h e a b =
     let q : j ≡ rules-before xs (k + 1) = rw (count-more (λ l. is-rule (word-of xs l)) k) (b ∙ rw (e, t .2)) in
     ⊎-elim
     (λ o.
-      let c : i ≡ m + 1 = a ∙ rw (e, o .0) in
-      let d : j ≡ r + 0 = b ∙ rw (e, o .1) in
-      (f, p, q, omega (arith, c, t .1, o .2), omega (arith, d, t .4), omega (arith, c, d, t .5)))
+    let c : i ≡ m + 1 = a ∙ rw (e, o .0) in
+    let d : j ≡ r + 0 = b ∙ rw (e, o .1) in
+    (f, p, q, omega (arith, c, t .1, o .2), omega (arith, d, t .4), omega (arith, c, d, t .5)))
     (λ o.
-      let c : i ≡ m + 0 = a ∙ rw (e, o .0) in
-      let d : j ≡ r + 1 = b ∙ rw (e, o .1) in
-      (f, p, q, omega (arith, c, t .3), omega (arith, d, t .2, o .2), omega (arith, c, d, t .5)))
+    let c : i ≡ m + 0 = a ∙ rw (e, o .0) in
+    let d : j ≡ r + 1 = b ∙ rw (e, o .1) in
+    (f, p, q, omega (arith, c, t .3), omega (arith, d, t .2, o .2), omega (arith, c, d, t .5)))
     (one-more xs k h)

@@ -19,15 +19,15 @@ use Rattle.words.specs.declared.message_kind.MessageKind.the-variants.{Publish
 use Rattle.words.specs.declared.head.MessageHead.{MessageHead}
 
 abbrev pub head-of : MessageKind → ℕ → ℕ → ℕ → ℕ → ℕ → ℕ → MessageHead
-head-of k receiver r s sender p x = record
-  { kind = k
-  ; receiver = receiver
-  ; role = r
-  ; subject = s
-  ; sender = sender
-  ; priority = p
-  ; context = x
-  }
+head-of k receiver r s sender p x = record {
+  kind = k;
+  receiver = receiver;
+  role = r;
+  subject = s;
+  sender = sender;
+  priority = p;
+  context = x;
+}
 
 abbrev pub valid-head : MessageHead → Bool
 valid-head h = head-valid (h .receiver) (h .role) (h .subject) (h .sender) (h .priority) (h .context)

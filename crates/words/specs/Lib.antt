@@ -5,3 +5,4 @@ pub mod Records
 pub mod Heads
 pub mod Books
 pub mod Runs
+pub mod Laws

@@ -2,9 +2,10 @@
 use crate::message_kind::MessageKind;
 
 mod codec;
-pub use codec::content_length;
+
 use crate::message_kind::MessageKindDebug;
 use crate::message_kind::MessageKindPartialEq;
+pub use codec::content_length;
 
 // A message but for its content: the receiver's number, and the sender's role and number.
 #[derive(Clone, Copy, PartialEq, Eq, Debug)]

@@ -2,6 +2,7 @@
 
 // The fault of a word.
 mod fault;
+
 pub use fault::WordFault;
 
 // The four fields of a word, and words among octets.
@@ -9,32 +10,42 @@ mod word;
 
 // A module that holds a number, at its port.
 mod member;
+
 pub use member::Member;
 
 // A module that asks for a number.
 mod applicant;
+
 pub use applicant::Applicant;
 
 // The Module ID.
 mod module_id;
+
 pub use module_id::ModuleId;
 
 // Subscriptions and invitations.
 mod rule_kind;
+
 pub use rule_kind::RuleKind;
+
 mod rule;
+
 pub use rule::Rule;
 
 // Why a request was rejected.
 mod reason;
+
 pub use reason::Cause;
 pub use reason::Reason;
 pub use reason::Rejected;
 
 // The three words of a message.
 mod message_kind;
+
 pub use message_kind::MessageKind;
+
 mod head;
+
 pub use head::MessageHead;
 pub use head::content_length;
 
@@ -44,4 +55,11 @@ mod sought;
 mod tally;
 // A book as it stands in a frame.
 mod book_run;
+
 pub use book_run::BookRun;
+
+// The laws of this layer.
+mod laws;
+
+pub use laws::book_laws;
+pub use laws::word_laws;

@@ -1,6 +1,7 @@
 // A member of the message space.
 
 mod codec;
+
 pub(crate) use codec::is_member;
 
 // A module that holds a number, at its port.

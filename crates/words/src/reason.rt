@@ -2,7 +2,11 @@
 ghost use mathlib.Core.Path.{_≡_};
 ghost use Rattle.words.specs.Records.{cause-number, is-reason, read-reason, reason-word, rejected-type};
 use crate::fault::WordFault;
-use crate::word::{kind_of, number_of, role_of, tail_of, word};
+use crate::word::kind_of;
+use crate::word::number_of;
+use crate::word::role_of;
+use crate::word::tail_of;
+use crate::word::word;
 
 const KIND: u8 = 4;
 
@@ -60,13 +64,23 @@ impl Reason {
         if !is_reason(w) {
             return Err(WordFault { place: at });
         }
-        let rejected = if role_of(w) == 8 { Rejected::Invite } else { Rejected::Subscribe };
-        Ok(Reason { rejected, cause: Cause::RuleListFull })
+        let rejected = if role_of(w) == 8 {
+            Rejected::Invite
+        } else {
+            Rejected::Subscribe
+        };
+        Ok(Reason {
+            rejected,
+            cause: Cause::RuleListFull,
+        })
     }
 }
 
 fn is_reason(w: u32) -> bool
     ensures { λ r. ⌜ r ≡ is-reason w ⌝ }
 {
-    kind_of(w) == KIND && number_of(w) == 0 && (role_of(w) == 8 || role_of(w) == 24) && tail_of(w) == 1
+    kind_of(w) == KIND
+        && number_of(w) == 0
+        && (role_of(w) == 8 || role_of(w) == 24)
+        && tail_of(w) == 1
 }

@@ -4,6 +4,7 @@ use crate::rule_kind::RuleKindDebug;
 use crate::rule_kind::RuleKindPartialEq;
 
 mod codec;
+
 pub(crate) use codec::is_rule;
 
 // The member of `number` wants messages on a subject (0: on every one) from senders of a role (0: of every one).

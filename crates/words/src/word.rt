@@ -6,12 +6,16 @@ ghost use Rattle.words.specs.Words.{word as word-by, kind-of, number-of, role-
 
 // What one more in a field adds to the word.
 const KIND_STEP: u32 = 268_435_456;
+
 const NUMBER_STEP: u32 = 1_048_576;
+
 const ROLE_STEP: u32 = 4_096;
 
 // The kind of the word of a member, and of a module that asks to be one.
 pub(crate) const MEMBER_KIND: u8 = 1;
+
 pub(crate) const LAST_PORT: u16 = 15;
+
 pub(crate) const LAST_SUBJECT: u16 = 4_095;
 
 pub(crate) fn word(kind: u8, number: u8, role: u8, tail: u16) -> u32

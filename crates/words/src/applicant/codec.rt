@@ -6,7 +6,13 @@ ghost use Rattle.words.specs.Ranges.{applicant-valid};
 ghost use Rattle.words.specs.Records.{applicant-of, applicant-word, is-applicant, read-applicant, valid-applicant};
 use crate::applicant::Applicant;
 use crate::fault::WordFault;
-use crate::word::{LAST_PORT, MEMBER_KIND, kind_of, number_of, role_of, tail_of, word};
+use crate::word::LAST_PORT;
+use crate::word::MEMBER_KIND;
+use crate::word::kind_of;
+use crate::word::number_of;
+use crate::word::role_of;
+use crate::word::tail_of;
+use crate::word::word;
 
 impl Applicant {
     // The applicant of these fields, if it may ask.
@@ -14,7 +20,11 @@ impl Applicant {
         ensures { λ r. ⌜ r ≡ cond (applicant-valid role port) (Some (applicant-of role port)) None ⌝ }
     {
         let applicant = Applicant { role, port };
-        if applicant.is_valid() { Some(applicant) } else { None }
+        if applicant.is_valid() {
+            Some(applicant)
+        } else {
+            None
+        }
     }
 
     // Whether such a module may ask.
@@ -35,7 +45,10 @@ impl Applicant {
         ensures { λ r. ⌜ r ≡ read-applicant w at ⌝ }
     {
         if is_applicant(w) {
-            Ok(Applicant { role: role_of(w), port: tail_of(w) as u8 })
+            Ok(Applicant {
+                role: role_of(w),
+                port: tail_of(w) as u8,
+            })
         } else {
             Err(WordFault { place: at })
         }
@@ -45,5 +58,9 @@ impl Applicant {
 fn is_applicant(w: u32) -> bool
     ensures { λ r. ⌜ r ≡ is-applicant w ⌝ }
 {
-    kind_of(w) == MEMBER_KIND && number_of(w) == 0 && role_of(w) >= 1 && tail_of(w) >= 1 && tail_of(w) <= LAST_PORT
+    kind_of(w) == MEMBER_KIND
+        && number_of(w) == 0
+        && role_of(w) >= 1
+        && tail_of(w) >= 1
+        && tail_of(w) <= LAST_PORT
 }

@@ -12,10 +12,14 @@ use crate::member::is_member;
 use crate::rule::is_rule;
 use crate::sought::Sought;
 use crate::tally::Tally;
-use crate::word::{number_of, tail_of, word_at};
+use crate::word::number_of;
+use crate::word::tail_of;
+use crate::word::word_at;
 
 const WORD_LEN: usize = 4;
+
 const MOST_MEMBERS: usize = 15;
+
 const MOST_RULES: usize = 200;
 
 impl Sought {
@@ -23,7 +27,8 @@ impl Sought {
         ensures { λ r. ⌜ r ≡ answers (now (self .entry)) w ⌝ }
     {
         match self {
-            Sought::Seat { number, port } => is_member(w) && (number_of(w) == *number || tail_of(w) == *port),
+            Sought::Seat { number, port } => is_member(w)
+                && (number_of(w) == *number || tail_of(w) == *port),
             Sought::Holder { number } => is_member(w) && number_of(w) == *number,
             Sought::Exactly(v) => w == *v,
         }
@@ -56,7 +61,15 @@ fn sits(book: &[u8], k: usize, tally: Tally, w: u32) -> bool
 {
     let number = number_of(w);
     if is_member(w) {
-        tally.members < MOST_MEMBERS && !stands(book, k, Sought::Seat { number, port: tail_of(w) })
+        tally.members < MOST_MEMBERS
+            && !stands(
+                book,
+                k,
+                Sought::Seat {
+                    number,
+                    port: tail_of(w),
+                },
+            )
     } else {
         is_rule(w) && tally.rules < MOST_RULES && stands(book, k, Sought::Holder { number })
     }
@@ -76,8 +89,16 @@ impl Tally {
         ensures members { λ r. ⌜ r .members ≡ self .members + cond (is-member w) 1 0 ⌝ }
         ensures rules { λ r. ⌜ r .rules ≡ self .rules + cond (is-rule w) 1 0 ⌝ }
     {
-        let members = if is_member(w) { self.members + 1 } else { self.members };
-        let rules = if is_rule(w) { self.rules + 1 } else { self.rules };
+        let members = if is_member(w) {
+            self.members + 1
+        } else {
+            self.members
+        };
+        let rules = if is_rule(w) {
+            self.rules + 1
+        } else {
+            self.rules
+        };
         Tally { members, rules }
     }
 }
@@ -88,12 +109,19 @@ pub(crate) fn wrong_word(book: &[u8]) -> Option<usize>
     ensures few { λ r. ⌜ (r ≡ None → length (now (book .entry)) ≤ 860) ⌝ }
     ensures within { λ r. ⌜ found r (λ k. 4 * k ≤ length (now (book .entry))) ⌝ }
 {
-    let mut tally = Tally { members: 0, rules: 0 };
+    let mut tally = Tally {
+        members: 0,
+        rules: 0,
+    };
     for k in 0..book.len() / WORD_LEN {
         if !fits(book, k, tally) {
             return Some(k);
         }
         tally = tally.with(word_at(book, WORD_LEN * k));
     }
-    if book.len() % WORD_LEN == 0 { None } else { Some(book.len() / WORD_LEN) }
+    if book.len() % WORD_LEN == 0 {
+        None
+    } else {
+        Some(book.len() / WORD_LEN)
+    }
 }

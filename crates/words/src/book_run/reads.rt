@@ -10,7 +10,8 @@ ghost use Rattle.words.specs.Records.{member-word};
 ghost use Rattle.words.specs.Runs.{seen-book};
 ghost use Rattle.words.specs.Books.{book-sound, has-word, members-before, read-book, rules-before, word-of, words-in};
 use crate::book_run::BookRun;
-use crate::book_run::check::{stands, wrong_word};
+use crate::book_run::check::stands;
+use crate::book_run::check::wrong_word;
 use crate::fault::WordFault;
 use crate::member::Member;
 use crate::sought::Sought;
@@ -22,7 +23,11 @@ const WORD_LEN: usize = 4;
 fn rest(octets: &[u8], at: usize) -> &[u8]
     ensures { λ r. ⌜ now r ≡ drop at (now (octets .entry)) ⌝ }
 {
-    if at <= octets.len() { octets.split_at(at).1 } else { octets.split_at(octets.len()).1 }
+    if at <= octets.len() {
+        octets.split_at(at).1
+    } else {
+        octets.split_at(octets.len()).1
+    }
 }
 
 impl<'a> BookRun<'a> {
@@ -34,7 +39,9 @@ impl<'a> BookRun<'a> {
         let octets = rest(frame, at);
         match wrong_word(octets) {
             None => Ok(BookRun { octets, place: at }),
-            Some(k) => Err(WordFault { place: at + WORD_LEN * k }),
+            Some(k) => Err(WordFault {
+                place: at + WORD_LEN * k,
+            }),
         }
     }
 
@@ -47,7 +54,11 @@ impl<'a> BookRun<'a> {
     pub fn word(&self, k: usize) -> Option<u32>
         ensures { λ r. ⌜ r ≡ cond (ltb k (words-in (now (self .entry) .octets .now))) (Some (word-of (now (self .entry) .octets .now) k)) None ⌝ }
     {
-        if k < self.words() { Some(word_at(self.octets, WORD_LEN * k)) } else { None }
+        if k < self.words() {
+            Some(word_at(self.octets, WORD_LEN * k))
+        } else {
+            None
+        }
     }
 
     // Whether the octets are a book.

@@ -11,13 +11,23 @@ ghost use Rattle.words.specs.Heads.{content-length, context-of, context-stands
 use crate::fault::WordFault;
 use crate::head::MessageHead;
 use crate::message_kind::MessageKind;
-use crate::word::{LAST_SUBJECT, kind_of, number_of, role_of, tail_of, word};
+use crate::word::LAST_SUBJECT;
+use crate::word::kind_of;
+use crate::word::number_of;
+use crate::word::role_of;
+use crate::word::tail_of;
+use crate::word::word;
 
 const SENDER_KIND: u8 = 13;
+
 const CONTEXT_KIND: u8 = 14;
+
 const PRIORITY_STEP: u32 = 65_536;
+
 const PRIORITIES: u32 = 16;
+
 const CONTEXTS: u32 = 268_435_456;
+
 const LAST_PRIORITY: u8 = 15;
 
 impl MessageKind {
@@ -47,10 +57,26 @@ impl MessageKind {
 
 impl MessageHead {
     // The head of these fields, if a message may have it.
-    pub fn new(kind: MessageKind, receiver: u8, role: u8, subject: u16, sender: u8, priority: u8, context: u32) -> Option<MessageHead>
+    pub fn new(
+        kind: MessageKind,
+        receiver: u8,
+        role: u8,
+        subject: u16,
+        sender: u8,
+        priority: u8,
+        context: u32,
+    ) -> Option<MessageHead>
         ensures { λ r. ⌜ r ≡ cond (head-valid receiver role subject sender priority context) (Some (head-of kind receiver role subject sender priority context)) None ⌝ }
     {
-        let head = MessageHead { kind, receiver, role, subject, sender, priority, context };
+        let head = MessageHead {
+            kind,
+            receiver,
+            role,
+            subject,
+            sender,
+            priority,
+            context,
+        };
         if head.is_valid() { Some(head) } else { None }
     }
 
@@ -74,7 +100,9 @@ impl MessageHead {
     {
         [
             word(self.kind.number(), self.receiver, self.role, self.subject),
-            word(SENDER_KIND, self.sender, 0, 0) + self.priority as u32 * PRIORITY_STEP + length as u32,
+            word(SENDER_KIND, self.sender, 0, 0)
+                + self.priority as u32 * PRIORITY_STEP
+                + length as u32,
             word(CONTEXT_KIND, 0, 0, 0) + self.context % CONTEXTS,
         ]
     }

@@ -7,7 +7,13 @@ ghost use Rattle.words.specs.Records.{is-member, member-of, member-word, modul
 use crate::fault::WordFault;
 use crate::member::Member;
 use crate::module_id::ModuleId;
-use crate::word::{LAST_PORT, MEMBER_KIND, kind_of, number_of, role_of, tail_of, word};
+use crate::word::LAST_PORT;
+use crate::word::MEMBER_KIND;
+use crate::word::kind_of;
+use crate::word::number_of;
+use crate::word::role_of;
+use crate::word::tail_of;
+use crate::word::word;
 
 impl Member {
     // The member of these fields, if it may stand.
@@ -15,7 +21,11 @@ impl Member {
         ensures { λ r. ⌜ r ≡ cond (member-valid number role port) (Some (member-of number role port)) None ⌝ }
     {
         let member = Member { number, role, port };
-        if member.is_valid() { Some(member) } else { None }
+        if member.is_valid() {
+            Some(member)
+        } else {
+            None
+        }
     }
 
     // Whether such a member may stand.
@@ -36,7 +46,11 @@ impl Member {
         ensures { λ r. ⌜ r ≡ read-member w at ⌝ }
     {
         if is_member(w) {
-            Ok(Member { number: number_of(w), role: role_of(w), port: tail_of(w) as u8 })
+            Ok(Member {
+                number: number_of(w),
+                role: role_of(w),
+                port: tail_of(w) as u8,
+            })
         } else {
             Err(WordFault { place: at })
         }
@@ -45,12 +59,19 @@ impl Member {
     pub fn module(&self) -> ModuleId
         ensures { λ r. ⌜ r ≡ module-of (now (self .entry)) ⌝ }
     {
-        ModuleId { number: self.number, role: self.role }
+        ModuleId {
+            number: self.number,
+            role: self.role,
+        }
     }
 }
 
 pub(crate) fn is_member(w: u32) -> bool
     ensures { λ r. ⌜ r ≡ is-member w ⌝ }
 {
-    kind_of(w) == MEMBER_KIND && number_of(w) >= 1 && role_of(w) >= 1 && tail_of(w) >= 1 && tail_of(w) <= LAST_PORT
+    kind_of(w) == MEMBER_KIND
+        && number_of(w) >= 1
+        && role_of(w) >= 1
+        && tail_of(w) >= 1
+        && tail_of(w) <= LAST_PORT
 }

@@ -7,8 +7,11 @@ ghost use Rattle.words.specs.Records.{id-of, module-by, read-module, valid-mod
 use crate::module_id::ModuleId;
 
 const UNIT: u32 = 0;
+
 const UNIT_STEP: u32 = 256;
+
 const UNITS: u32 = 65_536;
+
 const ROLE_STEP: u32 = 16_777_216;
 
 impl ModuleId {
@@ -17,7 +20,11 @@ impl ModuleId {
         ensures { λ r. ⌜ r ≡ cond (module-valid number role) (Some (module-by number role)) None ⌝ }
     {
         let module = ModuleId { number, role };
-        if module.is_valid() { Some(module) } else { None }
+        if module.is_valid() {
+            Some(module)
+        } else {
+            None
+        }
     }
 
     // Whether such a module may exist.

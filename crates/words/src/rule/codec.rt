@@ -7,7 +7,12 @@ ghost use Rattle.words.specs.Records.{is-rule, is-rule-of, read-rule, rule-kin
 use crate::fault::WordFault;
 use crate::rule::Rule;
 use crate::rule_kind::RuleKind;
-use crate::word::{LAST_SUBJECT, kind_of, number_of, role_of, tail_of, word};
+use crate::word::LAST_SUBJECT;
+use crate::word::kind_of;
+use crate::word::number_of;
+use crate::word::role_of;
+use crate::word::tail_of;
+use crate::word::word;
 
 impl RuleKind {
     // The kind of the word that carries such a rule.
@@ -26,7 +31,16 @@ impl Rule {
     pub fn new(kind: RuleKind, number: u8, role: u8, subject: u16) -> Option<Rule>
         ensures { λ r. ⌜ r ≡ cond (rule-valid kind number role subject) (Some (rule-of kind number role subject)) None ⌝ }
     {
-        if may_stand(kind, number, role, subject) { Some(Rule { kind, number, role, subject }) } else { None }
+        if may_stand(kind, number, role, subject) {
+            Some(Rule {
+                kind,
+                number,
+                role,
+                subject,
+            })
+        } else {
+            None
+        }
     }
 
     // Whether such a rule may stand.
@@ -47,7 +61,12 @@ impl Rule {
         ensures { λ r. ⌜ r ≡ read-rule kind w at ⌝ }
     {
         if is_rule_of(kind, w) {
-            Ok(Rule { kind, number: number_of(w), role: role_of(w), subject: tail_of(w) })
+            Ok(Rule {
+                kind,
+                number: number_of(w),
+                role: role_of(w),
+                subject: tail_of(w),
+            })
         } else {
             Err(WordFault { place: at })
         }
