@@ -123,5 +123,9 @@ module-of m = module-by (m .number) (m .role)
 abbrev pub is-module : ℕ → Bool
 is-module f = eqb (f / 256 % 65536) 0 && module-valid (f % 256) (f / 16777216)
 
+-- the number and the role in a reference
+abbrev pub module-in : ℕ → ModuleId
+module-in f = module-by (f % 256) (f / 16777216)
+
 abbrev pub read-module : ℕ → Option ModuleId
-read-module f = cond (is-module f) (Some (module-by (f % 256) (f / 16777216))) None
+read-module f = cond (is-module f) (Some (module-in f)) None

@@ -3,12 +3,10 @@ use crate::message_kind::MessageKind;
 
 mod codec;
 
-use crate::message_kind::MessageKindDebug;
-use crate::message_kind::MessageKindPartialEq;
 pub use codec::content_length;
 
 // A message but for its content: the receiver's number, and the sender's role and number.
-#[derive(Clone, Copy, PartialEq, Eq, Debug)]
+#[derive(Clone, Copy)]
 pub struct MessageHead {
     pub kind: MessageKind,
     pub receiver: u8,

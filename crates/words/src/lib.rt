@@ -4,6 +4,8 @@
 mod fault;
 
 pub use fault::WordFault;
+pub use fault::WordFaultDebug;
+pub use fault::WordFaultPartialEq;
 
 // The four fields of a word, and words among octets.
 mod word;
@@ -12,6 +14,7 @@ mod word;
 mod member;
 
 pub use member::Member;
+pub use member::MemberPartialEq;
 
 // A module that asks for a number.
 mod applicant;
@@ -27,10 +30,12 @@ pub use module_id::ModuleId;
 mod rule_kind;
 
 pub use rule_kind::RuleKind;
+pub use rule_kind::RuleKindPartialEq;
 
 mod rule;
 
 pub use rule::Rule;
+pub use rule::RulePartialEq;
 
 // Why a request was rejected.
 mod reason;
@@ -43,6 +48,7 @@ pub use reason::Rejected;
 mod message_kind;
 
 pub use message_kind::MessageKind;
+pub use message_kind::MessageKindPartialEq;
 
 mod head;
 

@@ -1,6 +1,6 @@
 // The three kinds of message.
 
-#[derive(Clone, Copy, PartialEq, Eq, Debug)]
+#[derive(Clone, Copy, PartialEq, Eq)]
 pub enum MessageKind {
     // To every member that subscribes.
     Published,

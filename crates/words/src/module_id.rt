@@ -3,7 +3,7 @@
 mod codec;
 
 // A module by its number and role; all modules are of unit 0.
-#[derive(Clone, Copy, PartialEq, Eq, Debug)]
+#[derive(Clone, Copy)]
 pub struct ModuleId {
     pub number: u8,
     pub role: u8,

@@ -11,19 +11,19 @@ use crate::word::word;
 const KIND: u8 = 4;
 
 // The request that was rejected; its number is the type of its frame.
-#[derive(Clone, Copy, PartialEq, Eq, Debug)]
+#[derive(Clone, Copy)]
 pub enum Rejected {
     Invite,
     Subscribe,
 }
 
-#[derive(Clone, Copy, PartialEq, Eq, Debug)]
+#[derive(Clone, Copy)]
 pub enum Cause {
     // The book has as many rules as it can hold.
     RuleListFull,
 }
 
-#[derive(Clone, Copy, PartialEq, Eq, Debug)]
+#[derive(Clone, Copy)]
 pub struct Reason {
     pub rejected: Rejected,
     pub cause: Cause,

@@ -1,6 +1,6 @@
 // The two kinds of rule.
 
-#[derive(Clone, Copy, PartialEq, Eq, Debug)]
+#[derive(Clone, Copy, PartialEq, Eq)]
 pub enum RuleKind {
     // Published messages are wanted.
     Subscription,

@@ -1,0 +1,160 @@
+// What a frame's header says, and whether a frame can carry the record.
+ghost use mathlib.Core.Path.{_≡_};
+ghost use mathlib.Core.Bool.{true};
+ghost use Prim.Native.Nat.{_≤_};
+ghost use lib.ListN.{length};
+ghost use Rattle.wire.specs.Frames.{value};
+ghost use Rattle.wire.specs.Writes.{carried, change-carried, change-header, header-of, in-time, same-kind, write};
+use crate::frame::Frame;
+use crate::frame::RuleChange;
+use crate::header::Header;
+use crate::meta_type::MetaType;
+use words::BookRun;
+use words::Member;
+use words::RuleKind;
+
+const REGISTRAR: u8 = 0;
+
+const LAST_TIME: u64 = 1_099_511_627_775;
+// Every reference of 32 bits.
+const LAST_REFERENCE: u32 = 4_294_967_295;
+
+const MOST_CONTENT: usize = 1_000;
+
+// Whether the time tag has 40 bits.
+fn in_time(time: u64) -> bool
+    ensures { λ r. ⌜ r ≡ in-time time ⌝ }
+{
+    time <= LAST_TIME
+}
+
+fn same_kind(a: RuleKind, b: RuleKind) -> bool
+    ensures { λ r. ⌜ r ≡ same-kind a b ⌝ }
+{
+    match (a, b) {
+        (RuleKind::Subscription, RuleKind::Subscription) => true,
+        (RuleKind::Subscription, RuleKind::Invitation) => false,
+        (RuleKind::Invitation, RuleKind::Subscription) => false,
+        (RuleKind::Invitation, RuleKind::Invitation) => true,
+    }
+}
+
+impl RuleChange {
+    fn header(&self, kind: MetaType) -> Option<Header>
+        ensures { λ r. ⌜ r ≡ change-header kind (now (self .entry)) ⌝ }
+    {
+        Some(Header {
+            kind,
+            role: self.member.role,
+            reference: self.member.module().to_reference(),
+            time: self.time,
+        })
+    }
+
+    // Whether a frame for rules of this kind can carry it.
+    fn is_carried(&self, kind: RuleKind) -> bool
+        ensures { λ r. ⌜ r ≡ change-carried kind (now (self .entry)) ⌝ }
+    {
+        in_time(self.time)
+            && self.member.is_valid()
+            && self.rule.is_valid()
+            && same_kind(self.rule.kind, kind)
+            && self.rule.number == self.member.number
+    }
+}
+
+impl Frame<'_> {
+    // The header of a Meta-AMS frame; a message has none.
+    pub fn header(&self) -> Option<Header>
+        ensures { λ r. ⌜ r ≡ header-of (value (now (self .entry))) ⌝ }
+    {
+        let (kind, role, reference, time) = match self {
+            Frame::Rejection {
+                time,
+                reference,
+                ..
+            } => (MetaType::Rejection, REGISTRAR, *reference, *time),
+            Frame::YouAreDead { time, module } => (
+                MetaType::YouAreDead,
+                REGISTRAR,
+                module.to_reference(),
+                *time,
+            ),
+            Frame::Invite(c) => return c.header(MetaType::Invite),
+            Frame::Disinvite(c) => return c.header(MetaType::Disinvite),
+            Frame::ModuleRegistration {
+                time,
+                query,
+                applicant,
+            } => { (MetaType::ModuleRegistration, applicant.role, *query, *time) }
+            Frame::YouAreIn { time, query, .. } => (MetaType::YouAreIn, REGISTRAR, *query, *time),
+            Frame::IAmStarting { time, member } => {
+                (
+                    MetaType::IAmStarting,
+                    REGISTRAR,
+                    member.module().to_reference(),
+                    *time,
+                )
+            }
+            Frame::Subscribe(c) => return c.header(MetaType::Subscribe),
+            Frame::Unsubscribe(c) => return c.header(MetaType::Unsubscribe),
+            Frame::IAmStopping { time, member } => {
+                (
+                    MetaType::IAmStopping,
+                    member.role,
+                    member.module().to_reference(),
+                    *time,
+                )
+            }
+            Frame::CellStatus { time, .. } => (MetaType::CellStatus, REGISTRAR, 0, *time),
+            Frame::Message { .. } => return None,
+        };
+        Some(Header {
+            kind,
+            role,
+            reference,
+            time,
+        })
+    }
+
+    // Whether a frame can carry the record.
+    pub fn is_carried(&self) -> bool
+        ensures value { λ r. ⌜ r ≡ carried (value (now (self .entry))) ⌝ }
+        ensures fits { λ r. ⌜ (r ≡ true → length (write (value (now (self .entry)))) ≤ 1012) ⌝ }
+    {
+        match self {
+            Frame::Rejection {
+                time,
+                reference,
+                ..
+            } => in_time(*time) && *reference <= LAST_REFERENCE,
+            Frame::YouAreDead { time, module } => in_time(*time) && module.is_valid(),
+            Frame::Invite(c) => c.is_carried(RuleKind::Invitation),
+            Frame::Disinvite(c) => c.is_carried(RuleKind::Invitation),
+            Frame::ModuleRegistration {
+                time,
+                query,
+                applicant,
+            } => { in_time(*time) && *query >= 1 && applicant.is_valid() }
+            Frame::YouAreIn {
+                time,
+                query,
+                member,
+                book,
+            } => {
+                in_time(*time)
+                    && *query >= 1
+                    && member.is_valid()
+                    && book.is_sound()
+                    && book.has(member)
+            }
+            Frame::IAmStarting { time, member } => in_time(*time) && member.is_valid(),
+            Frame::Subscribe(c) => c.is_carried(RuleKind::Subscription),
+            Frame::Unsubscribe(c) => c.is_carried(RuleKind::Subscription),
+            Frame::IAmStopping { time, member } => in_time(*time) && member.is_valid(),
+            Frame::CellStatus { time, book } => in_time(*time) && book.is_sound(),
+            Frame::Message { head, content } => head.is_valid()
+                && content.octets.len() <= MOST_CONTENT,
+        }
+    }
+}
