@@ -105,6 +105,19 @@ module _ (xs : List ℕ) (right : (k : ℕ) → k < words-in xs → fits xs k �
       let p = and-parts (is-member (word-of xs (r .0))) _ (r .2) in
       (r .0, r .1, p .0, eqb-true _ _ (p .1))
 
+pub sound-none : (xs : List ℕ) → book-sound xs ≡ true → wrong-word xs ≡ None
+sound-none xs e = none-of (wrong-word xs) e
+
+-- a book has at most 215 words
+pub sound-small : (xs : List ℕ) → book-sound xs ≡ true → length xs ≤ 860
+sound-small xs e =
+    let n = none-both (first-wrong (fits xs) (words-in xs)) _ (none-of _ e) in
+    let right : (k : ℕ) → k < words-in xs → fits xs k ≡ true = λ k h. all-right (fits xs) (words-in xs) k (n .0) h in
+    let t = counted xs right (words-in xs) (omega arith) (n .0) in
+    let w : length xs % 4 ≡ 0 = eqb-true _ _ (none-cond (eqb (length xs % 4) 0) (words-in xs) (n .1)) in
+    let c : words-in xs ≤ 215 = omega (arith, t .3, t .4, t .5) in
+    omega arith
+
 pub sound-is-book : Sound-is-book
 sound-is-book xs e =
     let n = none-both (first-wrong (fits xs) (words-in xs)) _ (none-of _ e) in

@@ -61,7 +61,7 @@ sender-back s p n w a b c e = (rw e (omega arith), rw e (omega arith), rw e (ome
 context-back : (x w : ℕ) → x < 268435456 → w ≡ 14 * 268435456 + x % 268435456 → (kind-of w ≡ 14) × (context-of w ≡ x)
 context-back x w a e = (rw e (omega arith), rw e (omega arith))
 
-below : (low high n : ℕ) → within low high n ≡ true → n ≤ high
+pub below : (low high n : ℕ) → within low high n ≡ true → n ≤ high
 below low high n h = leb-true n high (and-parts (leb low n) (leb n high) h .1)
 
 stood : (k : MessageKind) (a b c : ℕ) → receiver-stands a ≡ true → sender-stands b ≡ true → context-stands c ≡ true
