@@ -117,7 +117,7 @@ registration-back t q a v =
     let b = and-parts (leb 1 q) (leb q 4294967295) (r .0) in
     meta-back ModuleRegistration (a .role) q t (word-octets (applicant-word a) []) refl (omega arith) (omega (arith, leb-true _ _ (b .1))) (tick t (p .0))
     ∙ simp (word-back (applicant-word a) (applicant-fits a (r .1)), applicant-trip .back a 18 (r .1))
-      (simp (eq-eqb (a .role) (a .role) refl, lt-ltb 0 q (omega (arith, leb-true _ _ (b .0)))))
+    (simp (eq-eqb (a .role) (a .role) refl, lt-ltb 0 q (omega (arith, leb-true _ _ (b .0)))))
 
 in-back : (t q : ℕ) (m : Member) (b : List ℕ) → carried (you-are-in t q m b) ≡ true → read (write (you-are-in t q m b)) ≡ Ok (you-are-in t q m b)
 in-back t q m b v =
@@ -130,10 +130,10 @@ in-back t q m b v =
     let h : length b % 4 ≡ 0 = sound-is-book b (w .0) .whole in
     let z = length (word-octets (member-word m) b) in
     let n : length-right YouAreIn z ≡ true =
-          and-from _ _ (and-from _ _ (le-leb 4 z (omega arith)) (le-leb z 864 (omega arith))) (eq-eqb (z % 4) 0 (omega arith)) in
+    and-from _ _ (and-from _ _ (le-leb 4 z (omega arith)) (le-leb z 864 (omega arith))) (eq-eqb (z % 4) 0 (omega arith)) in
     meta-back YouAreIn 0 q t (word-octets (member-word m) b) n (omega arith) (omega (arith, leb-true _ _ (i .1))) (tick t (p .0))
     ∙ simp (word-back (member-word m) (member-fits m (s .0)), member-trip .back m 18 (s .0))
-      (simp (sound-none b (w .0)) (simp (w .1, lt-ltb 0 q (omega (arith, leb-true _ _ (i .0))))))
+    (simp (sound-none b (w .0)) (simp (w .1, lt-ltb 0 q (omega (arith, leb-true _ _ (i .0))))))
 
 named-read : (g : Bool) (j : MetaType) (t : ℕ) (m : Member) → valid-member m ≡ true
     → read-named g (header-octets (header j (cond g 0 (m .role)) (id-of (module-of m)) t) 4 (word-octets (member-word m) [])) (header j (cond g 0 (m .role)) (id-of (module-of m)) t) ≡ Ok m
@@ -143,7 +143,7 @@ named-read g j t m v =
 
 named-back : (g : Bool) (j : MetaType) (t : ℕ) (m : Member) → in-time t ≡ true → valid-member m ≡ true → length-right j 4 ≡ true
     → read (header-octets (header j (cond g 0 (m .role)) (id-of (module-of m)) t) 4 (word-octets (member-word m) []))
-      ≡ by-type j (header-octets (header j (cond g 0 (m .role)) (id-of (module-of m)) t) 4 (word-octets (member-word m) [])) (header j (cond g 0 (m .role)) (id-of (module-of m)) t)
+    ≡ by-type j (header-octets (header j (cond g 0 (m .role)) (id-of (module-of m)) t) 4 (word-octets (member-word m) [])) (header j (cond g 0 (m .role)) (id-of (module-of m)) t)
 named-back g j t m p v n =
     meta-back j (cond g 0 (m .role)) (id-of (module-of m)) t (word-octets (member-word m) []) n (omega arith) (module-fits m v) (tick t p)
 
@@ -194,7 +194,7 @@ message-back h b v =
     let t = head-trip .back h (length b) (p .0) (omega arith) in
     let k : message-kind (kind-of (receiver-word h)) ≡ Some (h .kind) = ap message-kind (w .4) ∙ kind-back (h .kind) in
     let m = message-some ys (h .kind) (receiver-word h) (sender-word h (length b)) (context-word h) (omega arith)
-          (sym (word-back _ (w .1))) (sym (word-back _ (w .2))) (sym (word-back _ (w .3))) k in
+    (sym (word-back _ (w .1))) (sym (word-back _ (w .2))) (sym (word-back _ (w .3))) k in
     rw z (sym m ∙ rw (t .0, t .1, le-leb (length b) 1000 l, eq-eqb (length ys) (12 + length b) (omega arith)))
 
 pub read-written : Read-written

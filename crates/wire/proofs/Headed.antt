@@ -129,11 +129,11 @@ header-inverse xs h o e =
     let r = and-parts (length-right k (supplement xs)) _ (q .1 .1 .1 .1 .0) in
     let m : length xs ≡ 18 + supplement xs = eqb-true _ _ (r .1) in
     let d : supplement xs ≡ length (drop 18 xs) = rw length-drop (omega arith) in
-    rw (← g) (record
-      { octets = rw (← d) (split xs k o l n q)
-      ; right = rw (← d) (r .0)
-      ; size = rw (← d) m
-      ; role = o 4
-      ; reference = word-below xs 8 o
-      ; time = omega (arith, o 13, word-below xs 14 o)
-      })
+    rw (← g) (record {
+      octets = rw (← d) (split xs k o l n q);
+      right = rw (← d) (r .0);
+      size = rw (← d) m;
+      role = o 4;
+      reference = word-below xs 8 o;
+      time = omega (arith, o 13, word-below xs 14 o);
+    })

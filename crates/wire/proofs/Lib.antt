@@ -5,3 +5,5 @@ pub mod Digits
 pub mod Inverts
 pub mod Headed
 pub mod Forth
+pub mod Inverse
+pub mod Both

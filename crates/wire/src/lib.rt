@@ -33,7 +33,15 @@ mod octets;
 // Octets to a frame.
 mod reader;
 
+pub use reader::read;
+
 // A frame to octets.
 mod writer;
 
 pub use writer::write;
+
+// The laws of frames.
+mod laws;
+
+pub use laws::frame_laws;
+pub use laws::worked_examples;

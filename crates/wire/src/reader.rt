@@ -4,10 +4,12 @@ ghost use mathlib.Core.Bool.{true};
 ghost use Prim.Native.Nat.{_-_, _≤_};
 ghost use lib.ListN.{getD, length};
 ghost use Rattle.std.specs.Vec.{made};
+ghost use lib.Dec.{leb};
+ghost use Rattle.wire.specs.Headers.{octet};
 ghost use Rattle.wire.specs.Types.{length-right};
 ghost use Rattle.wire.specs.Frames.{home, place-of, seen, value};
 ghost use Rattle.wire.specs.Reads.{by-type, ends, message-in, read as read-frame, read-change, read-dead, read-message, read-meta, read-named, read-own-rule, read-registration, read-rejection, read-status, read-you-are-in};
-ghost use Rattle.wire.specs.Writes.{write};
+ghost use Rattle.wire.specs.Writes.{carried, write};
 use crate::fault::FrameFault;
 use crate::fault::FrameFromWord;
 use crate::frame::ContentRun;
@@ -39,6 +41,9 @@ const SECOND_WORD: usize = 22;
 const CONTENT: usize = 12;
 
 const MOST_CONTENT: usize = 1_000;
+
+// A first octet from here on begins a message.
+const FIRST_OF_MESSAGES: u8 = 128;
 
 const REGISTRAR: u8 = 0;
 
@@ -238,5 +243,24 @@ fn read_message(octets: &[u8]) -> Result<Frame<'_>, FrameFault>
     match MessageKind::of_word(words[0]) {
         Some(kind) => read_words(octets, kind, words),
         None => Err(FrameFault::UnknownKind),
+    }
+}
+
+fn begins_message(octets: &[u8]) -> bool
+    ensures { λ r. ⌜ r ≡ leb 128 (octet (now (octets .entry)) 0) ⌝ }
+{
+    octets.len() > 0 && octets[0] >= FIRST_OF_MESSAGES
+}
+
+// The frame in a run of octets, or the first fault. Its book or content is a part of the octets.
+pub fn read(octets: &[u8]) -> Result<Frame<'_>, FrameFault>
+    ensures reads { λ r. ⌜ seen r ≡ read-frame (now (octets .entry)) ⌝ }
+    ensures place { λ r. ⌜ made r (λ f. place-of f ≡ home (value f)) ⌝ }
+    ensures back { λ r. ⌜ made r (λ f. (write (value f) ≡ now (octets .entry)) × (carried (value f) ≡ true)) ⌝ }
+{
+    if begins_message(octets) {
+        read_message(octets)
+    } else {
+        read_meta(octets)
     }
 }

@@ -8,12 +8,13 @@ use borrow.Author.Needs.{needs}
 use Rattle.std.specs.declared.result.Result.the-variants.{Ok}
 use Rattle.std.specs.declared.option.Option.the-variants.{Some}
 use Rattle.words.specs.declared.rule_kind.RuleKind.the-variants.{Subscription, Invitation}
-use Rattle.std.proofs.shelf.Tests.{and-parts, and-from, eqb-true, leb-true}
+use Rattle.std.proofs.shelf.Tests.{and-parts, and-from, eqb-true, leb-true, le-leb}
 use Rattle.words.specs.declared.message_kind.MessageKind.{MessageKind}
+use Rattle.words.specs.declared.head.MessageHead.{MessageHead}
 use Rattle.words.specs.Ranges.{within}
 use Rattle.words.specs.Words.{word, kind-of, number-of, role-of, tail-of}
 use Rattle.words.specs.Records.{read-if, is-member}
-use Rattle.words.specs.Heads.{kind-number, priority-of, content-length, context-of, head-of, receiver-word, sender-word, context-word, receiver-stands, sender-stands, context-stands, read-head}
+use Rattle.words.specs.Heads.{kind-number, priority-of, content-length, context-of, head-of, receiver-word, sender-word, context-word, receiver-stands, sender-stands, context-stands, in-turn, read-head}
 use Rattle.words.specs.Laws.{Round-trip, Member-trip, Applicant-trip, Rule-trip, Reason-trip, Module-trip, Head-trip, Word-order}
 
 pub read-if-ok : {A : Type 0} (b : Bool) (x y : A) (at : ℕ) → read-if b x at ≡ Ok y → (b ≡ true) × (x ≡ y)
@@ -68,6 +69,19 @@ stood : (k : MessageKind) (a b c : ℕ) → receiver-stands a ≡ true → sende
     → read-head k a b c ≡ Ok (head-of k (number-of a) (role-of a) (tail-of a) (number-of b) (priority-of b) (context-of c))
 stood k a b c p q r = rw (p, q, r)
 
+-- where the head was read, its three words stood
+stood-all : {A : Type 0} (p q r : Bool) (x y : A) → in-turn p q r x ≡ Ok y → (p ≡ true) × (q ≡ true) × (r ≡ true) × (x ≡ y)
+stood-all true true true x y f = (refl, refl, refl, cc)
+stood-all true true false x y f = let z : _≡_ {A = ℕ} 0 1 = cc in absurd (omega arith)
+stood-all true false r x y f = let z : _≡_ {A = ℕ} 0 1 = cc in absurd (omega arith)
+stood-all false q r x y f = let z : _≡_ {A = ℕ} 0 1 = cc in absurd (omega arith)
+
+sender-fields : (w : ℕ) → kind-of w ≡ 13 → 13 * 268435456 + number-of w * 1048576 + priority-of w * 65536 + content-length w ≡ w
+sender-fields w e = search needs
+
+context-fields : (w : ℕ) → kind-of w ≡ 14 → 14 * 268435456 + context-of (context-of w) ≡ w
+context-fields w e = search needs
+
 pub head-trip : Head-trip
 head-trip = record {
   back = λ h n v l.
@@ -92,6 +106,19 @@ head-trip = record {
       let q : sender-stands (sender-word h n) ≡ true = rw (s .0, s .1, s .2) (and-from _ _ (v3 .0) (v4 .0)) in
       let r : context-stands (context-word h) ≡ true = rw (x .0) in
       (stood (h .kind) (receiver-word h) (sender-word h n) (context-word h) p q r ∙ rw (n0, n1, n2, s .1, s .2, x .1), s .3);
+  forth = λ k a b c h i e.
+      let s = stood-all (receiver-stands a) (sender-stands b) (context-stands c) _ h e in
+      let p = and-parts (within 1 255 (number-of a)) _ (s .0) in
+      let o = and-parts (within 1 255 (role-of a)) (within 1 4095 (tail-of a)) (p .1) in
+      let q = and-parts (eqb (kind-of b) 13) _ (s .1) in
+      let r = and-parts (within 1 255 (number-of b)) _ (q .1) in
+      rw (← s .3) (
+        refl,
+        and-from _ _ (p .0) (and-from _ _ (o .0) (and-from _ _ (o .1) (and-from _ _ (r .0) (and-from _ _ (r .1) (le-leb (context-of c) 268435455 (omega arith)))))),
+        fields a (kind-number k) i,
+        sender-fields b (eqb-true _ _ (q .0)),
+        context-fields c (eqb-true _ _ (s .2)),
+      );
 }
 
 pub word-order : Word-order

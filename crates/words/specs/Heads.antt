@@ -5,7 +5,7 @@
 --     context-word h         14, context (28 bits)
 --     read-head k a b c      the head in three words, or a fault at the octet of the first wrong one
 use Prim.Native.Nat.{ℕ, _+_, _*_, _/_, _%_}
-use mathlib.Core.Bool.{Bool, cond, _&&_, not}
+use mathlib.Core.Bool.{Bool, cond, _&&_}
 use lib.Dec.{eqb}
 use Rattle.std.specs.declared.option.Option.{Option}
 use Rattle.std.specs.declared.option.Option.the-variants.{Some, None}
@@ -67,10 +67,11 @@ sender-stands w = eqb (kind-of w) 13 && (within 1 255 (number-of w) && within 1 
 abbrev pub context-stands : ℕ → Bool
 context-stands w = eqb (kind-of w) 14
 
--- the first word that does not stand, by its octet in the frame
+-- x where three words stand, else a fault at the octet of the first that does not
+abbrev pub in-turn : {A : Type 0} → Bool → Bool → Bool → A → Result A WordFault
+in-turn p q r x = cond p (cond q (cond r (Ok x) (Err (record { place = 8 }))) (Err (record { place = 4 }))) (Err (record { place = 0 }))
+
 abbrev pub read-head : MessageKind → ℕ → ℕ → ℕ → Result MessageHead WordFault
 read-head k a b c =
-    cond (not (receiver-stands a)) (Err (record { place = 0 }))
-    (cond (not (sender-stands b)) (Err (record { place = 4 }))
-    (cond (not (context-stands c)) (Err (record { place = 8 }))
-    (Ok (head-of k (number-of a) (role-of a) (tail-of a) (number-of b) (priority-of b) (context-of c)))))
+    in-turn (receiver-stands a) (sender-stands b) (context-stands c)
+    (head-of k (number-of a) (role-of a) (tail-of a) (number-of b) (priority-of b) (context-of c))

@@ -20,9 +20,10 @@ use Rattle.words.specs.declared.rule.Rule.{Rule}
 use Rattle.words.specs.declared.reason.Reason.{Reason}
 use Rattle.words.specs.declared.module_id.ModuleId.{ModuleId}
 use Rattle.words.specs.declared.head.MessageHead.{MessageHead}
-use Rattle.words.specs.Words.{before, number-of, tail-of}
+use Rattle.words.specs.declared.message_kind.MessageKind.{MessageKind}
+use Rattle.words.specs.Words.{before, kind-of, number-of, tail-of}
 use Rattle.words.specs.Records.{valid-member, member-word, read-member, valid-applicant, applicant-word, read-applicant, valid-rule, rule-word, read-rule, reason-word, read-reason, valid-module, id-of, read-module, is-member, is-rule}
-use Rattle.words.specs.Heads.{valid-head, receiver-word, sender-word, context-word, read-head, content-length}
+use Rattle.words.specs.Heads.{valid-head, kind-number, receiver-word, sender-word, context-word, read-head, content-length}
 use Rattle.words.specs.Books.{word-of, words-in, members-before, rules-before, book-sound}
 
 pub record Round-trip {A : Type 0} (Valid : A → Type 0) (write : A → ℕ) (read : ℕ → ℕ → Result A WordFault) : Type 0 where
@@ -49,6 +50,8 @@ pub record Module-trip : Type 0 where
 pub record Head-trip : Type 0 where
   pub back : (h : MessageHead) (n : ℕ) → valid-head h ≡ true → n < 65536
       → (read-head (h .kind) (receiver-word h) (sender-word h n) (context-word h) ≡ Ok h) × (content-length (sender-word h n) ≡ n)
+  pub forth : (k : MessageKind) (a b c : ℕ) (h : MessageHead) → kind-of a ≡ kind-number k → read-head k a b c ≡ Ok h
+      → (h .kind ≡ k) × (valid-head h ≡ true) × (receiver-word h ≡ a) × (sender-word h (content-length b) ≡ b) × (context-word h ≡ c)
 
 abbrev pub Word-order : Type 0
 Word-order = (w v : ℕ) → ltb w v ≡ before w v
