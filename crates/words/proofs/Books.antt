@@ -10,7 +10,7 @@ use Rattle.std.proofs.shelf.Tests.{cases-bool, and-parts, and-left, or-from, eq
 use Rattle.std.specs.declared.option.Option.the-variants.{Some, None}
 use Rattle.words.specs.Words.{kind-of}
 use Rattle.words.specs.Records.{is-member, is-rule}
-use Rattle.words.specs.Books.{first-wrong, fits, sits, ascends, members-before, rules-before, word-of, words-in, wrong-word}
+use Rattle.words.specs.Books.{count-below, first-wrong, fits, sits, ascends, members-before, rules-before, word-of, words-in, wrong-word}
 use Rattle.words.proofs.Search.{first-more, count-more}
 
 -- no word is both
@@ -41,12 +41,21 @@ abbrev pub Turned : List ℕ → ℕ → ℕ → ℕ → Type 0
 Turned xs k m r =
     (first-wrong (fits xs) k ≡ None) × (m ≡ members-before xs k) × (r ≡ rules-before xs k) × (m ≤ 15) × (r ≤ 200) × (m + r ≡ k)
 
+-- a count of the words that pass a test, with one word more
+pub counted-more : (f : ℕ → Bool) (xs : List ℕ) (k m i w : ℕ) → m ≡ count-below (λ j. f (word-of xs j)) k → w ≡ word-of xs k → i ≡ m + cond (f w) 1 0
+    → i ≡ count-below (λ j. f (word-of xs j)) (k + 1)
+counted-more f xs k m i w h e a = rw (count-more (λ j. f (word-of xs j)) k) (a ∙ rw (e, h))
+
+pub one-at-most : (b : Bool) (m i k : ℕ) → i ≡ m + cond b 1 0 → m ≤ k → i ≤ k + 1
+one-at-most true m i k e l = omega arith
+one-at-most false m i k e l = omega arith
+
 pub turn : (xs : List ℕ) (k m r i j w : ℕ) → Turned xs k m r → fits xs k ≡ true → w ≡ word-of xs k
     → i ≡ m + cond (is-member w) 1 0 → j ≡ r + cond (is-rule w) 1 0 → Turned xs (k + 1) i j
 turn xs k m r i j w t h e a b =
     let f : first-wrong (fits xs) (k + 1) ≡ None = first-more (fits xs) k ∙ rw (t .0, h) in
-    let p : i ≡ members-before xs (k + 1) = rw (count-more (λ l. is-member (word-of xs l)) k) (a ∙ rw (e, t .1)) in
-    let q : j ≡ rules-before xs (k + 1) = rw (count-more (λ l. is-rule (word-of xs l)) k) (b ∙ rw (e, t .2)) in
+    let p : i ≡ members-before xs (k + 1) = counted-more is-member xs k m i w (t .1) e a in
+    let q : j ≡ rules-before xs (k + 1) = counted-more is-rule xs k r j w (t .2) e b in
     ⊎-elim
     (λ o.
     let c : i ≡ m + 1 = a ∙ rw (e, o .0) in

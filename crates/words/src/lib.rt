@@ -57,8 +57,9 @@ pub use head::content_length;
 
 // What is sought among the words of a book.
 mod sought;
-// How many members and rules stand before a word of a book.
+// How many members and rules a book has.
 mod tally;
+pub use tally::Tally;
 // A book as it stands in a frame.
 mod book_run;
 

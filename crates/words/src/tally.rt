@@ -1,7 +1,7 @@
-// How many members and rules stand before a word of a book.
+// How many members and rules a book has, or has before a word of it.
 
 #[derive(Clone, Copy)]
-pub(crate) struct Tally {
-    pub(crate) members: usize,
-    pub(crate) rules: usize,
+pub struct Tally {
+    pub members: usize,
+    pub rules: usize,
 }

@@ -1,7 +1,7 @@
 // The words of a book in turn, each with those before it.
 ghost use mathlib.Core.Path.{_≡_};
 ghost use mathlib.Core.Bool.{cond};
-ghost use Prim.Native.Nat.{_+_, _-_, _*_, _<_, _≤_, _/_, _%_};
+ghost use Prim.Native.Nat.{_+_, _-_, _*_, _<_, _≤_, _/_, _%_, _^_};
 ghost use lib.ListN.{length, drop};
 ghost use Rattle.words.specs.Words.{number-of, tail-of};
 ghost use Rattle.std.specs.Slices.{found};
@@ -85,7 +85,7 @@ fn fits(book: &[u8], k: usize, tally: Tally) -> bool
 impl Tally {
     // With one word more.
     fn with(self, w: u32) -> Tally
-        requires { ⌜ self .members ≤ 15 ⌝ ∗ ⌜ self .rules ≤ 200 ⌝ }
+        requires { ⌜ self .members < 2 ^ 63 ⌝ ∗ ⌜ self .rules < 2 ^ 63 ⌝ }
         ensures members { λ r. ⌜ r .members ≡ self .members + cond (is-member w) 1 0 ⌝ }
         ensures rules { λ r. ⌜ r .rules ≡ self .rules + cond (is-rule w) 1 0 ⌝ }
     {
@@ -101,6 +101,18 @@ impl Tally {
         };
         Tally { members, rules }
     }
+}
+
+// How many members and rules there are among the words.
+pub(crate) fn tally_words(book: &[u8]) -> Tally
+    ensures members { λ r. ⌜ r .members ≡ members-before (now (book .entry)) (words-in (now (book .entry))) ⌝ }
+    ensures rules { λ r. ⌜ r .rules ≡ rules-before (now (book .entry)) (words-in (now (book .entry))) ⌝ }
+{
+    let mut tally = Tally { members: 0, rules: 0 };
+    for k in 0..book.len() / WORD_LEN {
+        tally = tally.with(word_at(book, WORD_LEN * k));
+    }
+    tally
 }
 
 // The index of the first wrong word; a word cut short is one.

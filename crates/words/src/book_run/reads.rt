@@ -11,10 +11,12 @@ ghost use Rattle.words.specs.Runs.{seen-book};
 ghost use Rattle.words.specs.Books.{book-sound, has-word, members-before, read-book, rules-before, word-of, words-in};
 use crate::book_run::BookRun;
 use crate::book_run::check::stands;
+use crate::book_run::check::tally_words;
 use crate::book_run::check::wrong_word;
 use crate::fault::WordFault;
 use crate::member::Member;
 use crate::sought::Sought;
+use crate::tally::Tally;
 use crate::word::word_at;
 
 const WORD_LEN: usize = 4;
@@ -59,6 +61,14 @@ impl<'a> BookRun<'a> {
         } else {
             None
         }
+    }
+
+    // How many members and rules it has.
+    pub fn tally(&self) -> Tally
+        ensures members { λ r. ⌜ r .members ≡ members-before (now (self .entry) .octets .now) (words-in (now (self .entry) .octets .now)) ⌝ }
+        ensures rules { λ r. ⌜ r .rules ≡ rules-before (now (self .entry) .octets .now) (words-in (now (self .entry) .octets .now)) ⌝ }
+    {
+        tally_words(self.octets)
     }
 
     // Whether the octets are a book.
