@@ -1,0 +1,16 @@
+-- Each turn adds the digits of one octet.
+use mathlib.Core.Path.{_≡_}
+use native.Mathlib.Omega.{arith}
+use lib.ListN.{length}
+use Rattle.std.specs.Of.String.{string-bytes}
+use Rattle.std.proofs.shelf.Lists.{take-all}
+use Rattle.explain.proofs.Scans.{hexed-more}
+use Rattle.explain.proofs.hex.to_hex.Needs as need
+
+pub loop-octet-again : need.loop-octet-again
+loop-octet-again c =
+    hexed-more (c .args .octets .now) (c .loop-octet .octet-index) (string-bytes (c .loop-octet .text)) (string-bytes (c .push-octet .last .text))
+    (c .loop-octet-test .taken) (c .loop-octet .inv) (c .in-Continue-push-octet .ensures tt)
+
+pub returns : need.returns
+returns c = rw (take-all (c .loop-octet .octet-index) (c .args .octets .now) (c .loop-octet-test .left)) at (c .loop-octet .inv)
