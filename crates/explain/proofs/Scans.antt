@@ -31,7 +31,7 @@ scan-more cs i s t l e f = folded-more step (scanned [] None) cs i 0 l ∙ (ap (
 pub scan-broken : (cs : List ℕ) (i : ℕ) → folded step (scanned [] None) (take i cs) ≡ broken → None ≡ unhex cs
 scan-broken cs i e =
     let f : folded step (scanned [] None) cs ≡ broken =
-          ap (folded step (scanned [] None)) (sym (take-append-drop i cs)) ∙ (folded-both (scanned [] None) (take i cs) (drop i cs) ∙ (ap (λ s. folded step s (drop i cs)) e ∙ broken-stays (drop i cs))) in
+    ap (folded step (scanned [] None)) (sym (take-append-drop i cs)) ∙ (folded-both (scanned [] None) (take i cs) (drop i cs) ∙ (ap (λ s. folded step s (drop i cs)) e ∙ broken-stays (drop i cs))) in
     sym (ap finish f)
 
 -- one octet more in digits

@@ -17,7 +17,11 @@ fn digit(d: u8) -> char
     ensures value { λ r. ⌜ r ≡ digit d ⌝ }
     ensures ascii { λ r. ⌜ r < 128 ⌝ }
 {
-    if d < 10 { (b'0' + d) as char } else { (b'A' - 10 + d) as char }
+    if d < 10 {
+        (b'0' + d) as char
+    } else {
+        (b'A' - 10 + d) as char
+    }
 }
 
 fn push_octet(text: &mut String, octet: u8) -> Result<(), AllocError>
@@ -90,5 +94,9 @@ pub fn from_hex(heap: Global, line: &[u8]) -> Result<Option<Vec<u8>>, AllocError
             return Ok(None);
         }
     }
-    if high.is_none() { Ok(Some(octets)) } else { Ok(None) }
+    if high.is_none() {
+        Ok(Some(octets))
+    } else {
+        Ok(None)
+    }
 }

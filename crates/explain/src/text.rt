@@ -9,8 +9,17 @@ ghost use Rattle.explain.specs.Texts.{book-text, change-text, content-text, ex
 use crate::hex::to_hex;
 use std::alloc::AllocError;
 use std::alloc::Global;
-use wire::{Frame, Header, MetaType, RuleChange, read};
-use words::{BookRun, Member, MessageHead, MessageKind, Rule, RuleKind};
+use wire::Frame;
+use wire::Header;
+use wire::MetaType;
+use wire::RuleChange;
+use wire::read;
+use words::BookRun;
+use words::Member;
+use words::MessageHead;
+use words::MessageKind;
+use words::Rule;
+use words::RuleKind;
 
 fn type_name(kind: MetaType) -> &'static str
     ensures { λ r. ⌜ now r ≡ type-name kind ⌝ }
@@ -105,7 +114,11 @@ fn change_text(heap: Global, c: &RuleChange) -> Result<String, AllocError>
 fn content_text(heap: Global, octets: &[u8]) -> Result<String, AllocError>
     ensures { λ r. ⌜ made r (λ s. string-bytes s ≡ content-text (now (octets .entry))) ⌝ }
 {
-    if octets.is_empty() { String::from_str(heap, "-") } else { to_hex(heap, octets) }
+    if octets.is_empty() {
+        String::from_str(heap, "-")
+    } else {
+        to_hex(heap, octets)
+    }
 }
 
 // Who sends a message to whom.
@@ -126,7 +139,10 @@ fn subject_text(heap: Global, head: &MessageHead) -> Result<String, AllocError>
     let subject = head.subject;
     let priority = head.priority;
     let context = head.context;
-    format!(heap, " subject {subject} priority {priority} context {context}")
+    format!(
+        heap,
+        " subject {subject} priority {priority} context {context}"
+    )
 }
 
 fn message_text(heap: Global, head: &MessageHead, octets: &[u8]) -> Result<String, AllocError>
@@ -157,11 +173,20 @@ fn parts_text(heap: Global, frame: &Frame<'_>) -> Result<String, AllocError>
     ensures { λ r. ⌜ made r (λ s. string-bytes s ≡ parts-text (value (now (frame .entry)))) ⌝ }
 {
     match frame {
-        Frame::Rejection { reason, .. } => reason_text(heap, reason.rejected.number(), reason.cause.number()),
+        Frame::Rejection { reason, .. } => reason_text(
+            heap,
+            reason.rejected.number(),
+            reason.cause.number(),
+        ),
         Frame::YouAreDead { .. } => Ok(String::new(heap)),
         Frame::Invite(c) => change_text(heap, c),
         Frame::Disinvite(c) => change_text(heap, c),
-        Frame::ModuleRegistration { applicant, .. } => member_text(heap, 0, applicant.role, applicant.port),
+        Frame::ModuleRegistration { applicant, .. } => member_text(
+            heap,
+            0,
+            applicant.role,
+            applicant.port,
+        ),
         Frame::YouAreIn { member, book, .. } => admission_text(heap, member, book),
         Frame::IAmStarting { member, .. } => named_text(heap, member),
         Frame::Subscribe(c) => change_text(heap, c),

@@ -1,5 +1,6 @@
 // Reads a dump of frames in hex from standard input and prints what each line is.
-use explain::{answer_line, line_end};
+use explain::answer_line;
+use explain::line_end;
 use std::error::AnyError;
 use std::io::Read;
 
@@ -11,7 +12,11 @@ fn answer_dump(rt: &LibcRuntime, dump: &[u8]) -> Result<(), AnyError> {
         if let Some(text) = answer_line(rt.alloc(), line)? {
             println!(rt, "{text}")?;
         }
-        rest = if after.len() > 0 { after.split_at(1).1 } else { after };
+        rest = if after.len() > 0 {
+            after.split_at(1).1
+        } else {
+            after
+        };
     }
     Ok(())
 }

@@ -59,6 +59,7 @@ pub use head::content_length;
 mod sought;
 // How many members and rules a book has.
 mod tally;
+
 pub use tally::Tally;
 // A book as it stands in a frame.
 mod book_run;

@@ -1,9 +1,6 @@
 // An applicant to and from its word.
 ghost use mathlib.Core.Path.{_≡_};
-ghost use mathlib.Core.Bool.{cond};
-ghost use Rattle.std.specs.declared.option.Option.the-variants.{Some, None};
-ghost use Rattle.words.specs.Ranges.{applicant-valid};
-ghost use Rattle.words.specs.Records.{applicant-of, applicant-word, is-applicant, read-applicant, valid-applicant};
+ghost use Rattle.words.specs.Records.{applicant-word, is-applicant, read-applicant, valid-applicant};
 use crate::applicant::Applicant;
 use crate::fault::WordFault;
 use crate::word::LAST_PORT;
@@ -15,18 +12,6 @@ use crate::word::tail_of;
 use crate::word::word;
 
 impl Applicant {
-    // The applicant of these fields, if it may ask.
-    pub fn new(role: u8, port: u8) -> Option<Applicant>
-        ensures { λ r. ⌜ r ≡ cond (applicant-valid role port) (Some (applicant-of role port)) None ⌝ }
-    {
-        let applicant = Applicant { role, port };
-        if applicant.is_valid() {
-            Some(applicant)
-        } else {
-            None
-        }
-    }
-
     // Whether such a module may ask.
     pub fn is_valid(&self) -> bool
         ensures { λ r. ⌜ r ≡ valid-applicant (now (self .entry)) ⌝ }

@@ -108,7 +108,10 @@ pub(crate) fn tally_words(book: &[u8]) -> Tally
     ensures members { λ r. ⌜ r .members ≡ members-before (now (book .entry)) (words-in (now (book .entry))) ⌝ }
     ensures rules { λ r. ⌜ r .rules ≡ rules-before (now (book .entry)) (words-in (now (book .entry))) ⌝ }
 {
-    let mut tally = Tally { members: 0, rules: 0 };
+    let mut tally = Tally {
+        members: 0,
+        rules: 0,
+    };
     for k in 0..book.len() / WORD_LEN {
         tally = tally.with(word_at(book, WORD_LEN * k));
     }

@@ -1,13 +1,11 @@
 // The head of a message to and from its three words.
 ghost use mathlib.Core.Path.{_≡_};
-ghost use mathlib.Core.Bool.{cond};
 ghost use mathlib.Core.List.{[], _∷_};
 ghost use Prim.Native.Nat.{_<_};
 ghost use lib.ListN.{getD};
 ghost use Rattle.std.specs.declared.option.Option.the-variants.{Some, None};
-ghost use Rattle.words.specs.Ranges.{head-valid};
 ghost use Rattle.words.specs.Words.{kind-of};
-ghost use Rattle.words.specs.Heads.{content-length, context-of, context-stands, context-word, head-of, kind-number, message-kind, priority-of, read-head, receiver-stands, receiver-word, sender-stands, sender-word, valid-head};
+ghost use Rattle.words.specs.Heads.{content-length, context-stands, context-word, kind-number, message-kind, priority-of, read-head, receiver-stands, receiver-word, sender-stands, sender-word, valid-head};
 use crate::fault::WordFault;
 use crate::head::MessageHead;
 use crate::message_kind::MessageKind;
@@ -56,30 +54,6 @@ impl MessageKind {
 }
 
 impl MessageHead {
-    // The head of these fields, if a message may have it.
-    pub fn new(
-        kind: MessageKind,
-        receiver: u8,
-        role: u8,
-        subject: u16,
-        sender: u8,
-        priority: u8,
-        context: u32,
-    ) -> Option<MessageHead>
-        ensures { λ r. ⌜ r ≡ cond (head-valid receiver role subject sender priority context) (Some (head-of kind receiver role subject sender priority context)) None ⌝ }
-    {
-        let head = MessageHead {
-            kind,
-            receiver,
-            role,
-            subject,
-            sender,
-            priority,
-            context,
-        };
-        if head.is_valid() { Some(head) } else { None }
-    }
-
     // Whether a message may have this head.
     pub fn is_valid(&self) -> bool
         ensures { λ r. ⌜ r ≡ valid-head (now (self .entry)) ⌝ }

@@ -1,9 +1,6 @@
 // A member to and from its word, and its Module ID.
 ghost use mathlib.Core.Path.{_≡_};
-ghost use mathlib.Core.Bool.{cond};
-ghost use Rattle.std.specs.declared.option.Option.the-variants.{Some, None};
-ghost use Rattle.words.specs.Ranges.{member-valid};
-ghost use Rattle.words.specs.Records.{is-member, member-of, member-word, module-of, read-member, valid-member};
+ghost use Rattle.words.specs.Records.{is-member, member-word, module-of, read-member, valid-member};
 use crate::fault::WordFault;
 use crate::member::Member;
 use crate::module_id::ModuleId;
@@ -16,18 +13,6 @@ use crate::word::tail_of;
 use crate::word::word;
 
 impl Member {
-    // The member of these fields, if it may stand.
-    pub fn new(number: u8, role: u8, port: u8) -> Option<Member>
-        ensures { λ r. ⌜ r ≡ cond (member-valid number role port) (Some (member-of number role port)) None ⌝ }
-    {
-        let member = Member { number, role, port };
-        if member.is_valid() {
-            Some(member)
-        } else {
-            None
-        }
-    }
-
     // Whether such a member may stand.
     pub fn is_valid(&self) -> bool
         ensures { λ r. ⌜ r ≡ valid-member (now (self .entry)) ⌝ }

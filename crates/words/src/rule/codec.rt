@@ -1,9 +1,7 @@
 // A rule to and from its word.
 ghost use mathlib.Core.Path.{_≡_};
-ghost use mathlib.Core.Bool.{cond};
-ghost use Rattle.std.specs.declared.option.Option.the-variants.{Some, None};
 ghost use Rattle.words.specs.Ranges.{rule-valid};
-ghost use Rattle.words.specs.Records.{is-rule, is-rule-of, read-rule, rule-kind-number, rule-of, rule-word, valid-rule};
+ghost use Rattle.words.specs.Records.{is-rule, is-rule-of, read-rule, rule-kind-number, rule-word, valid-rule};
 use crate::fault::WordFault;
 use crate::rule::Rule;
 use crate::rule_kind::RuleKind;
@@ -27,22 +25,6 @@ impl RuleKind {
 }
 
 impl Rule {
-    // The rule of these fields, if it may stand.
-    pub fn new(kind: RuleKind, number: u8, role: u8, subject: u16) -> Option<Rule>
-        ensures { λ r. ⌜ r ≡ cond (rule-valid kind number role subject) (Some (rule-of kind number role subject)) None ⌝ }
-    {
-        if may_stand(kind, number, role, subject) {
-            Some(Rule {
-                kind,
-                number,
-                role,
-                subject,
-            })
-        } else {
-            None
-        }
-    }
-
     // Whether such a rule may stand.
     pub fn is_valid(&self) -> bool
         ensures { λ r. ⌜ r ≡ valid-rule (now (self .entry)) ⌝ }

@@ -9,13 +9,14 @@ pub returns-then-not-fine : need.returns-then-not-fine
 returns-then-not-fine c =
     scan-broken (c .args .line .now) (c .loop-c .c-index + 1)
     (scan-more (c .args .line .now) (c .loop-c .c-index) _ broken (c .loop-c-test .taken) (c .loop-c .inv .0)
-      (scan-failed (c .in-Continue-fine .fine) _ _ (c .if-not-fine .taken) (c .in-Continue-fine .ensures tt .scan)))
+    (scan-failed (c .in-Continue-fine .fine) _ _ (c .if-not-fine .taken) (c .in-Continue-fine .ensures tt .scan)))
 
 pub loop-c-again : need.loop-c-again
-loop-c-again c =
-    (scan-more (c .args .line .now) (c .loop-c .c-index) _ _ (c .loop-c-test .taken) (c .loop-c .inv .0)
+loop-c-again c = (
+  scan-more (c .args .line .now) (c .loop-c .c-index) _ _ (c .loop-c-test .taken) (c .loop-c .inv .0)
       (scan-went (c .in-Continue-fine .fine) _ _ (c .if-not-fine .left) (c .in-Continue-fine .ensures tt .scan)),
-      c .take-char .ensures .small)
+  c .take-char .ensures .small,
+)
 
 pub returns-then-is-none : need.returns-then-is-none
 returns-then-is-none c =
