@@ -2,7 +2,7 @@
 --     explained r         the line for what reading answered
 --     answer cs           the line for a line of a dump; none for one that is passed over
 use Prim.Native.Nat.{ℕ}
-use mathlib.Core.Bool.{Bool, cond, _||_}
+use mathlib.Core.Bool.{Bool, cond, _&&_, _||_}
 use mathlib.Core.List.{List, [], _∷_, _++_}
 use lib.Chars.{codes}
 use lib.Dec.{eqb}
@@ -133,9 +133,9 @@ abbrev pub spelled : Option (List ℕ) → List ℕ
 spelled (Some xs) = explained (read xs)
 spelled None = codes "not hex"
 
--- an empty line, and one that starts with #, are passed over
+-- an empty line, with or without a carriage return, and one that starts with #, are passed over
 abbrev pub passed-over : List ℕ → Bool
-passed-over cs = eqb (length cs) 0 || eqb (getD cs 0 0) 35
+passed-over cs = eqb (length cs) 0 || (eqb (getD cs 0 0) 35 || (eqb (length cs) 1 && eqb (getD cs 0 0) 13))
 
 abbrev pub answer : List ℕ → Option (List ℕ)
 answer cs = cond (passed-over cs) None (Some (spelled (unhex cs)))

@@ -29,7 +29,7 @@ pub fn line_end(dump: &[u8]) -> usize
 fn passed_over(line: &[u8]) -> bool
     ensures { λ r. ⌜ r ≡ passed-over (now (line .entry)) ⌝ }
 {
-    line.len() == 0 || line[0] == b'#'
+    line.len() == 0 || line[0] == b'#' || line.len() == 1 && line[0] == b'\r'
 }
 
 fn spell(heap: Global, line: &[u8]) -> Result<String, AllocError>

@@ -21,8 +21,12 @@ fn answer_dump(rt: &LibcRuntime, dump: &[u8]) -> Result<(), AnyError> {
     Ok(())
 }
 
-fn main(rt: LibcRuntime) -> Result<(), AnyError> {
+fn run(rt: &LibcRuntime) -> Result<(), AnyError> {
     let mut dump = Vec::new(rt.alloc());
     rt.stdin().read_to_end(&mut dump)?;
-    rt.report(answer_dump(&rt, dump.as_slice()))
+    answer_dump(rt, dump.as_slice())
+}
+
+fn main(rt: LibcRuntime) -> Result<(), AnyError> {
+    rt.report(run(&rt))
 }

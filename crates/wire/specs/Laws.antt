@@ -8,13 +8,17 @@ use mathlib.Core.Path.{_≡_}
 use mathlib.Core.Bool.{true}
 use mathlib.Core.List.{List, [], _∷_, map}
 use lib.ListN.{getD, replicate}
+use Rattle.std.specs.declared.option.Option.{Option}
+use Rattle.std.specs.declared.option.Option.the-variants.{Some, None}
 use Rattle.std.specs.declared.result.Result.{Result}
 use Rattle.std.specs.declared.result.Result.the-variants.{Ok, Err}
 use Rattle.words.specs.declared.message_kind.MessageKind.the-variants.{Published}
 use Rattle.words.specs.Records.{module-id, applicant-of}
 use Rattle.words.specs.Heads.{head-of}
 use Rattle.wire.specs.declared.fault.FrameFault.{FrameFault}
-use Rattle.wire.specs.Faults.{fault-of}
+use Rattle.wire.specs.declared.fault.FaultCode.{FaultCode}
+use Rattle.wire.specs.declared.fault.Layer.the-variants.{Frame}
+use Rattle.wire.specs.Faults.{fault-of, code}
 use Rattle.wire.specs.Frames.{FrameV, module-registration, message}
 use Rattle.wire.specs.Reads.{read}
 use Rattle.wire.specs.Writes.{write, carried}
@@ -31,10 +35,10 @@ Written-read = (xs : List ℕ) (v : FrameV) → Octets xs → read xs ≡ Ok v �
 abbrev pub Read-carried : Type 0
 Read-carried = (xs : List ℕ) (v : FrameV) → Octets xs → read xs ≡ Ok v → carried v ≡ true
 
--- the number of a fault, 0 where there is none
-abbrev pub fault-number : Result FrameV FrameFault → ℕ
-fault-number (Ok v) = 0
-fault-number (Err e) = fault-of e .number
+-- what is told of a fault
+abbrev pub told : Result FrameV FrameFault → Option FaultCode
+told (Ok v) = None
+told (Err e) = Some (fault-of e)
 
 -- port 4 of role 5 asks with query number 1 at time 0
 abbrev pub asking : FrameV
@@ -56,4 +60,4 @@ Examples =
     (module-id 3 0 5 ≡ 83886083)
     × (map write (asking ∷ saying ∷ []) ≡ asking-octets ∷ saying-octets ∷ [])
     × (map read (asking-octets ∷ saying-octets ∷ []) ≡ Ok asking ∷ Ok saying ∷ [])
-    × (map (λ xs. fault-number (read xs)) ((32 ∷ replicate 17 0) ∷ (31 ∷ replicate 17 0) ∷ replicate 17 19 ∷ []) ≡ 2 ∷ 3 ∷ 1 ∷ [])
+    × (map (λ xs. told (read xs)) ((32 ∷ replicate 17 0) ∷ (31 ∷ replicate 17 0) ∷ replicate 17 19 ∷ []) ≡ Some (code 2 0 Frame) ∷ Some (code 3 0 Frame) ∷ Some (code 1 0 Frame) ∷ [])

@@ -3,13 +3,15 @@ ghost use mathlib.Core.Path.{_≡_};
 ghost use mathlib.Core.Bool.{true};
 ghost use Prim.Native.Nat.{_≤_};
 ghost use lib.ListN.{length};
+ghost use Rattle.std.specs.declared.option.Option.the-variants.{Some};
+ghost use Rattle.words.specs.Records.{id-of, module-of};
+ghost use Rattle.wire.specs.Headers.{header};
 ghost use Rattle.wire.specs.Frames.{value};
 ghost use Rattle.wire.specs.Writes.{carried, change-carried, change-header, header-of, in-time, same-kind, write};
 use crate::frame::Frame;
 use crate::frame::RuleChange;
 use crate::header::Header;
 use crate::meta_type::MetaType;
-use words::BookRun;
 use words::Member;
 use words::RuleKind;
 
@@ -39,16 +41,24 @@ fn same_kind(a: RuleKind, b: RuleKind) -> bool
     }
 }
 
+fn named(kind: MetaType, role: u8, reference: u32, time: u64) -> Option<Header>
+    ensures { λ r. ⌜ r ≡ Some (header kind role reference time) ⌝ }
+{
+    Some(Header { kind, role, reference, time })
+}
+
+// With the member's Module ID for a reference.
+fn own(kind: MetaType, role: u8, member: &Member, time: u64) -> Option<Header>
+    ensures { λ r. ⌜ r ≡ Some (header kind role (id-of (module-of (now (member .entry)))) time) ⌝ }
+{
+    named(kind, role, member.module().to_reference(), time)
+}
+
 impl RuleChange {
     fn header(&self, kind: MetaType) -> Option<Header>
         ensures { λ r. ⌜ r ≡ change-header kind (now (self .entry)) ⌝ }
     {
-        Some(Header {
-            kind,
-            role: self.member.role,
-            reference: self.member.module().to_reference(),
-            time: self.time,
-        })
+        own(kind, self.member.role, &self.member, self.time)
     }
 
     // Whether a frame for rules of this kind can carry it.
@@ -68,53 +78,22 @@ impl Frame<'_> {
     pub fn header(&self) -> Option<Header>
         ensures { λ r. ⌜ r ≡ header-of (value (now (self .entry))) ⌝ }
     {
-        let (kind, role, reference, time) = match self {
-            Frame::Rejection {
-                time,
-                reference,
-                ..
-            } => (MetaType::Rejection, REGISTRAR, *reference, *time),
-            Frame::YouAreDead { time, module } => (
-                MetaType::YouAreDead,
-                REGISTRAR,
-                module.to_reference(),
-                *time,
-            ),
-            Frame::Invite(c) => return c.header(MetaType::Invite),
-            Frame::Disinvite(c) => return c.header(MetaType::Disinvite),
-            Frame::ModuleRegistration {
-                time,
-                query,
-                applicant,
-            } => { (MetaType::ModuleRegistration, applicant.role, *query, *time) }
-            Frame::YouAreIn { time, query, .. } => (MetaType::YouAreIn, REGISTRAR, *query, *time),
-            Frame::IAmStarting { time, member } => {
-                (
-                    MetaType::IAmStarting,
-                    REGISTRAR,
-                    member.module().to_reference(),
-                    *time,
-                )
+        match self {
+            Frame::Rejection { time, reference, .. } => named(MetaType::Rejection, REGISTRAR, *reference, *time),
+            Frame::YouAreDead { time, module } => named(MetaType::YouAreDead, REGISTRAR, module.to_reference(), *time),
+            Frame::Invite(c) => c.header(MetaType::Invite),
+            Frame::Disinvite(c) => c.header(MetaType::Disinvite),
+            Frame::ModuleRegistration { time, query, applicant } => {
+                named(MetaType::ModuleRegistration, applicant.role, *query, *time)
             }
-            Frame::Subscribe(c) => return c.header(MetaType::Subscribe),
-            Frame::Unsubscribe(c) => return c.header(MetaType::Unsubscribe),
-            Frame::IAmStopping { time, member } => {
-                (
-                    MetaType::IAmStopping,
-                    member.role,
-                    member.module().to_reference(),
-                    *time,
-                )
-            }
-            Frame::CellStatus { time, .. } => (MetaType::CellStatus, REGISTRAR, 0, *time),
-            Frame::Message { .. } => return None,
-        };
-        Some(Header {
-            kind,
-            role,
-            reference,
-            time,
-        })
+            Frame::YouAreIn { time, query, .. } => named(MetaType::YouAreIn, REGISTRAR, *query, *time),
+            Frame::IAmStarting { time, member } => own(MetaType::IAmStarting, REGISTRAR, member, *time),
+            Frame::Subscribe(c) => c.header(MetaType::Subscribe),
+            Frame::Unsubscribe(c) => c.header(MetaType::Unsubscribe),
+            Frame::IAmStopping { time, member } => own(MetaType::IAmStopping, member.role, member, *time),
+            Frame::CellStatus { time, .. } => named(MetaType::CellStatus, REGISTRAR, 0, *time),
+            Frame::Message { .. } => None,
+        }
     }
 
     // Whether a frame can carry the record.
