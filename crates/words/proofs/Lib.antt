@@ -3,3 +3,4 @@ pub mod Search
 pub mod Books
 pub mod Trips
 pub mod Sound
+pub mod Whole

@@ -53,7 +53,7 @@ some-at f (suc n) e =
     (λ (q : f n ≡ true). (n, omega arith, q))
     (or-cases (some-below f n) (f n) e)
 
-rule-no-member : (w : ℕ) → is-rule w ≡ true → is-member w ≡ false
+pub rule-no-member : (w : ℕ) → is-rule w ≡ true → is-member w ≡ false
 rule-no-member w h =
     ⊎-elim (λ (m : is-member w ≡ true). let n = member-no-rule w m in let z : _≡_ {A = ℕ} 0 1 = cc in absurd (omega arith)) (λ (m : is-member w ≡ false). m)
     (cases-bool (is-member w))

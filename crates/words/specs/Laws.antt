@@ -70,3 +70,7 @@ pub record Book (xs : List ℕ) : Type 0 where
 -- a run in which no word is wrong is a book
 abbrev pub Sound-is-book : Type 0
 Sound-is-book = (xs : List ℕ) → book-sound xs ≡ true → Book xs
+
+-- and in a book no word is wrong
+abbrev pub Book-is-sound : Type 0
+Book-is-sound = (xs : List ℕ) → Book xs → book-sound xs ≡ true

@@ -1,5 +1,5 @@
 // The laws of this layer; each function's contract is a theorem.
-ghost use Rattle.words.specs.Laws.{Applicant-trip, Head-trip, Member-trip, Module-trip, Reason-trip, Rule-trip, Sound-is-book, Word-order};
+ghost use Rattle.words.specs.Laws.{Applicant-trip, Book-is-sound, Head-trip, Member-trip, Module-trip, Reason-trip, Rule-trip, Sound-is-book, Word-order};
 
 // Every record reads back from its word, and a word that reads is the word of its record; words are in the order of their fields.
 pub fn word_laws()
@@ -12,7 +12,8 @@ pub fn word_laws()
     ensures order { λ _. ⌜ Word-order ⌝ }
 {}
 
-// A run in which no word is wrong is a book.
+// A run in which no word is wrong is a book, and in a book no word is wrong.
 pub fn book_laws()
-    ensures { λ _. ⌜ Sound-is-book ⌝ }
+    ensures sound { λ _. ⌜ Sound-is-book ⌝ }
+    ensures book { λ _. ⌜ Book-is-sound ⌝ }
 {}

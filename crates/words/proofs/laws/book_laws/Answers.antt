@@ -1,6 +1,7 @@
--- The law of the book, by its proof.
+-- The laws of the book, by their proofs.
 use Rattle.words.proofs.Sound.{sound-is-book}
+use Rattle.words.proofs.Whole.{book-is-sound}
 use Rattle.words.proofs.laws.book_laws.Needs as need
 
 pub returns : need.returns
-returns c = sound-is-book
+returns c = record { sound = sound-is-book; book = book-is-sound }
