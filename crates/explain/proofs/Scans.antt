@@ -1,18 +1,22 @@
 -- Scans of a line, and lines of digits. Assumes nothing.
-use Prim.Native.Nat.{ℕ, _+_, _<_, _≤_}
+use Prim.Native.Nat.{ℕ, suc, _+_, _-_, _*_, _/_, _%_, _<_, _≤_}
 use mathlib.Core.Path.{_≡_, refl, sym, ap, _∙_}
 use mathlib.Core.List.{List, [], _∷_, _++_}
 use native.Mathlib.Omega.{arith}
 use mathlib.Core.Bool.{Bool, true, false, cond}
+use mathlib.Core.Logic.{⊎-elim}
+use lib.Dec.{ltb, leb}
 use lib.ListN.{length, take, drop, getD}
 use Rattle.std.specs.Iters.{folded}
 use Rattle.std.specs.shelf.Lists.{joined}
 use Rattle.std.specs.Options.{isSome}
 use Rattle.std.specs.declared.option.Option.{Option}
 use Rattle.std.specs.declared.option.Option.the-variants.{Some, None}
-use Rattle.std.proofs.shelf.Lists.{append-assoc, take-all, take-append-drop, take-more, joined-more}
+use Rattle.std.proofs.shelf.Lists.{append-assoc, append-nil, take-all, take-append-drop, take-more, joined-more}
 use Rattle.std.proofs.shelf.Sums.{folded-more}
-use Rattle.explain.specs.Hex.{Scan, broken, scanned, step, finish, unhex, octet-hex, hexed}
+use Rattle.std.proofs.shelf.Tests.{cases-bool, and-from, and-right, le-leb, lt-leb, ltb-true, ltb-false}
+use Rattle.words.specs.Ranges.{within}
+use Rattle.explain.specs.Hex.{Scan, broken, scanned, step, finish, unhex, octet-hex, hexed, digit, digit-of}
 
 folded-both : (s : Scan) (xs ys : List ℕ) → folded step s (xs ++ ys) ≡ folded step (folded step s xs) ys
 folded-both s [] ys = refl
@@ -60,3 +64,32 @@ scan-part cs xs i (Some d) l e h = sym (scan-end cs i (scanned xs (Some d)) l e)
 -- two characters more
 pub two-pushed : (b e f b1 b2 : List ℕ) (x y p q : ℕ) → b1 ≡ b ++ e → b2 ≡ b1 ++ f → e ≡ x ∷ [] → f ≡ y ∷ [] → x ≡ p → y ≡ q → b2 ≡ b ++ (p ∷ q ∷ [])
 two-pushed b e f b1 b2 x y p q h i j k l m = i ∙ rw (h, j, k, l, m) (append-assoc b (p ∷ []) (q ∷ []))
+
+digit-back : (d : ℕ) → d < 16 → digit-of (digit d) ≡ Some d
+digit-back d l =
+    ⊎-elim (λ (q : ltb d 10 ≡ true).
+    let e : digit d ≡ 48 + d = rw q in
+    let k = ltb-true d 10 q in
+    let w : within 48 57 (48 + d) ≡ true = and-from _ _ (le-leb 48 (48 + d) (omega arith)) (le-leb (48 + d) 57 (omega arith)) in
+    rw (e, w) (ap Some (omega arith)))
+    (λ (q : ltb d 10 ≡ false).
+    let e : digit d ≡ 55 + d = rw q in
+    let k = ltb-false d 10 q in
+    let u : within 48 57 (55 + d) ≡ false = and-right (leb 48 (55 + d)) _ (lt-leb (55 + d) 57 (omega arith)) in
+    let w : within 65 70 (55 + d) ≡ true = and-from _ _ (le-leb 65 (55 + d) (omega arith)) (le-leb (55 + d) 70 (omega arith)) in
+    rw (e, u, w) (ap Some (omega arith)))
+    (cases-bool (ltb d 10))
+
+-- the digits of octets, behind octets that were scanned
+hexed-scan : (ys xs : List ℕ) → ((i : ℕ) → getD xs i 0 < 256) → folded step (scanned ys None) (hexed xs) ≡ scanned (ys ++ xs) None
+hexed-scan ys [] o = rw (append-nil ys)
+hexed-scan ys (x ∷ xs) o =
+    let b : x < 256 = o 0 in
+    let p = digit-back (x / 16) (omega arith) in
+    let q = digit-back (x % 16) (omega arith) in
+    let e : x / 16 * 16 + x % 16 ≡ x = omega arith in
+    rw (p, q, e) (hexed-scan (ys ++ x ∷ []) xs (λ i. o (suc i)) ∙ ap (λ z. scanned z None) (append-assoc ys (x ∷ []) xs))
+
+-- octets written in hex are spelled by it
+pub hexed-back : (t xs : List ℕ) → ((i : ℕ) → getD xs i 0 < 256) → t ≡ hexed xs → unhex t ≡ Some xs
+hexed-back t xs o e = rw e (ap finish (hexed-scan [] xs o))

@@ -8,6 +8,7 @@ ghost use Rattle.std.specs.Of.String.{string-bytes};
 ghost use Rattle.std.specs.Of.Vec.{vec-items};
 ghost use Rattle.std.specs.Slices.{found};
 ghost use Rattle.std.specs.Vec.{made};
+ghost use Rattle.std.specs.declared.option.Option.the-variants.{Some};
 ghost use Rattle.explain.specs.Hex.{blank, broken, digit, digit-of, hexed, octet-hex, scanned, step, unhex};
 use std::alloc::AllocError;
 use std::alloc::Global;
@@ -34,7 +35,8 @@ fn push_octet(text: &mut String, octet: u8) -> Result<(), AllocError>
 
 // Two upper-case digits for each octet.
 pub fn to_hex(heap: Global, octets: &[u8]) -> Result<String, AllocError>
-    ensures { λ r. ⌜ made r (λ s. string-bytes s ≡ hexed (now (octets .entry))) ⌝ }
+    ensures text { λ r. ⌜ made r (λ s. string-bytes s ≡ hexed (now (octets .entry))) ⌝ }
+    ensures back { λ r. ⌜ made r (λ s. unhex (string-bytes s) ≡ Some (now (octets .entry))) ⌝ }
 {
     let mut text = String::new(heap);
     for octet in octets {

@@ -28,7 +28,7 @@ use Rattle.words.specs.Words.{word, kind-of, word-octets}
 use Rattle.words.specs.Records.{valid-member, valid-applicant, valid-module, valid-rule, member-word, applicant-word, rule-word, reason-word, id-of, module-of, is-module, module-in, read-module}
 use Rattle.words.specs.Heads.{valid-head, kind-number, message-kind, receiver-word, sender-word, context-word, content-length, read-head}
 use Rattle.words.specs.Books.{book-sound, has-word, wrong-word, read-book}
-use Rattle.words.proofs.Trips.{below, member-trip, applicant-trip, rule-trip, reason-trip, module-trip, head-trip}
+use Rattle.words.proofs.Trips.{head-bounds, member-trip, applicant-trip, rule-trip, reason-trip, module-trip, head-trip}
 use Rattle.words.proofs.Sound.{sound-is-book, sound-none, sound-small}
 use Rattle.wire.specs.declared.frame.RuleChange.{RuleChange}
 use Rattle.wire.specs.declared.header.Header.{Header}
@@ -169,16 +169,7 @@ kind-back Private = refl
 head-fits : (h : MessageHead) (n : ℕ) → valid-head h ≡ true → n < 65536
     → (2147483648 ≤ receiver-word h) × (receiver-word h < 4294967296) × (sender-word h n < 4294967296) × (context-word h < 4294967296) × (kind-of (receiver-word h) ≡ kind-number (h .kind))
 head-fits h n v l =
-    let v0 = and-parts (within 1 255 (h .receiver)) _ v in
-    let v1 = and-parts (within 1 255 (h .role)) _ (v0 .1) in
-    let v2 = and-parts (within 1 4095 (h .subject)) _ (v1 .1) in
-    let v3 = and-parts (within 1 255 (h .sender)) _ (v2 .1) in
-    let v4 = and-parts (within 1 15 (h .priority)) _ (v3 .1) in
-    let b0 : h .receiver ≤ 255 = below 1 255 (h .receiver) (v0 .0) in
-    let b1 : h .role ≤ 255 = below 1 255 (h .role) (v1 .0) in
-    let b2 : h .subject ≤ 4095 = below 1 4095 (h .subject) (v2 .0) in
-    let b3 : h .sender ≤ 255 = below 1 255 (h .sender) (v3 .0) in
-    let b4 : h .priority ≤ 15 = below 1 15 (h .priority) (v4 .0) in
+    let b = head-bounds h v in
     let k = kind-range (h .kind) in
     (omega (arith, k .0), omega (arith, k .1), omega arith, omega arith, omega arith)
 

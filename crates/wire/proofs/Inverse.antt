@@ -104,9 +104,10 @@ module _ (xs : List ℕ) (h : Header) (o : Octets xs) (hr : Header-read xs h) wh
         fit = and-from _ _ (timed (h .time) (hr .time)) (f .0);
       })
 
-  change-inverse : (j : RuleKind) (k : MetaType) (c : RuleChange) → h .kind ≡ k → length xs ≡ 26 → read-change j xs h ≡ Ok c
+  change-inverse : (j : RuleKind) (k : MetaType) (c : RuleChange) → h .kind ≡ k → (length-right k (length (drop 18 xs)) ≡ true → length (drop 18 xs) ≡ 8) → read-change j xs h ≡ Ok c
       → (Some (header k (c .member .role) (id-of (module-of (c .member))) (c .time)) ≡ Some h) × (change-data c ≡ drop 18 xs) × (change-carried j c ≡ true)
-  change-inverse j k c p l e =
+  change-inverse j k c p z e =
+      let l = sized k 8 p z in
       let t = then-ok (up (read-member (word-at xs 18) 18)) _ c e in
       let m = t .0 in
       let f = member-trip .forth (word-at xs 18) 18 m (up-ok _ m (t .1)) in
@@ -168,9 +169,10 @@ module _ (xs : List ℕ) (h : Header) (o : Octets xs) (hr : Header-read xs h) wh
         fit = and-from _ _ (timed (h .time) (hr .time)) (and-from _ _ (referred (h .reference) (ltb-true _ _ (n .1)) (hr .reference)) (and-from _ _ (f .0) (and-from _ _ (y .1) (q .0 .0))));
       })
 
-  named-inverse : (b : Bool) (k : MetaType) (m : Member) → h .kind ≡ k → length xs ≡ 22 → read-named b xs h ≡ Ok m
+  named-inverse : (b : Bool) (k : MetaType) (m : Member) → h .kind ≡ k → (length-right k (length (drop 18 xs)) ≡ true → length (drop 18 xs) ≡ 4) → read-named b xs h ≡ Ok m
       → (Some (header k (cond b 0 (m .role)) (id-of (module-of m)) (h .time)) ≡ Some h) × (word-octets (member-word m) [] ≡ drop 18 xs) × ((in-time (h .time) && valid-member m) ≡ true)
-  named-inverse b k m p l e =
+  named-inverse b k m p z e =
+      let l = sized k 4 p z in
       let t = then-ok (up (read-member (word-at xs 18) 18)) _ m e in
       let s = then-ok (ends h (cond b 0 (t .0 .role)) (refers-to h (t .0))) _ m (t .2) in
       let n = ends-ok h (cond b 0 (t .0 .role)) (refers-to h (t .0)) (s .0) (s .1) in
@@ -196,37 +198,28 @@ module _ (xs : List ℕ) (h : Header) (o : Octets xs) (hr : Header-read xs h) wh
         fit = and-from _ _ (timed (h .time) (hr .time)) (y .1);
       })
 
-  changed : (j : RuleKind) (k : MetaType) (make : RuleChange → FrameV) (v : FrameV) → h .kind ≡ k → (length-right k (length (drop 18 xs)) ≡ true → length (drop 18 xs) ≡ 8)
-      → ((c : RuleChange) → (header-of (make c) ≡ Some (header k (c .member .role) (id-of (module-of (c .member))) (c .time))) × (data-of (make c) ≡ change-data c) × (carried (make c) ≡ change-carried j c))
-      → (and-then (read-change j xs h) λ c. Ok (make c)) ≡ Ok v → Inverse xs h v
-  changed j k make v p f q e =
-      let t = then-ok (read-change j xs h) _ v e in
-      let c = t .0 in
-      let i = change-inverse j k c p (sized k 8 p f) (t .1) in
-      let g : make c ≡ v = ok-is _ v (t .2) in
-      rw (← g) (record { head = q c .0 ∙ i .0; content = q c .1 ∙ i .1; fit = q c .2 ∙ i .2 })
+  -- a record that was read, in the frame of its type
+  wrapped : {A : Type 0} (r : Result A FrameFault) (make : A → FrameV) (v : FrameV) → ((x : A) → r ≡ Ok x → Inverse xs h (make x))
+      → (and-then r λ x. Ok (make x)) ≡ Ok v → Inverse xs h v
+  wrapped r make v f e =
+      let t = then-ok r _ v e in
+      let g : make (t .0) ≡ v = ok-is _ v (t .2) in
+      rw (← g) (f (t .0) (t .1))
 
-  named : (b : Bool) (k : MetaType) (make : Member → FrameV) (v : FrameV) → h .kind ≡ k → (length-right k (length (drop 18 xs)) ≡ true → length (drop 18 xs) ≡ 4)
-      → ((m : Member) → (header-of (make m) ≡ Some (header k (cond b 0 (m .role)) (id-of (module-of m)) (h .time))) × (data-of (make m) ≡ word-octets (member-word m) []) × (carried (make m) ≡ (in-time (h .time) && valid-member m)))
-      → (and-then (read-named b xs h) λ m. Ok (make m)) ≡ Ok v → Inverse xs h v
-  named b k make v p f q e =
-      let t = then-ok (read-named b xs h) _ v e in
-      let m = t .0 in
-      let i = named-inverse b k m p (sized k 4 p f) (t .1) in
-      let g : make m ≡ v = ok-is _ v (t .2) in
-      rw (← g) (record { head = q m .0 ∙ i .0; content = q m .1 ∙ i .1; fit = q m .2 ∙ i .2 })
+  three : (v : FrameV) → (header-of v ≡ Some h) × (data-of v ≡ drop 18 xs) × (carried v ≡ true) → Inverse xs h v
+  three v i = record { head = i .0; content = i .1; fit = i .2 }
 
   inverse : (k : MetaType) (v : FrameV) → h .kind ≡ k → by-type k xs h ≡ Ok v → Inverse xs h v
   inverse Rejection v k e = rejection-inverse v k e
   inverse YouAreDead v k e = dead-inverse v k e
-  inverse Invite v k e = changed Invitation Invite invite v k (λ q. eqb-true _ 8 q) (λ c. (refl, refl, refl)) e
-  inverse Disinvite v k e = changed Invitation Disinvite disinvite v k (λ q. eqb-true _ 8 q) (λ c. (refl, refl, refl)) e
+  inverse Invite v k e = wrapped (read-change Invitation xs h) invite v (λ c q. three (invite c) (change-inverse Invitation Invite c k (λ n. eqb-true _ 8 n) q)) e
+  inverse Disinvite v k e = wrapped (read-change Invitation xs h) disinvite v (λ c q. three (disinvite c) (change-inverse Invitation Disinvite c k (λ n. eqb-true _ 8 n) q)) e
   inverse ModuleRegistration v k e = registration-inverse v k e
   inverse YouAreIn v k e = in-inverse v k e
-  inverse IAmStarting v k e = named true IAmStarting (i-am-starting (h .time)) v k (λ q. eqb-true _ 4 q) (λ m. (refl, refl, refl)) e
-  inverse Subscribe v k e = changed Subscription Subscribe subscribe v k (λ q. eqb-true _ 8 q) (λ c. (refl, refl, refl)) e
-  inverse Unsubscribe v k e = changed Subscription Unsubscribe unsubscribe v k (λ q. eqb-true _ 8 q) (λ c. (refl, refl, refl)) e
-  inverse IAmStopping v k e = named false IAmStopping (i-am-stopping (h .time)) v k (λ q. eqb-true _ 4 q) (λ m. (refl, refl, refl)) e
+  inverse IAmStarting v k e = wrapped (read-named true xs h) (i-am-starting (h .time)) v (λ m q. three (i-am-starting (h .time) m) (named-inverse true IAmStarting m k (λ n. eqb-true _ 4 n) q)) e
+  inverse Subscribe v k e = wrapped (read-change Subscription xs h) subscribe v (λ c q. three (subscribe c) (change-inverse Subscription Subscribe c k (λ n. eqb-true _ 8 n) q)) e
+  inverse Unsubscribe v k e = wrapped (read-change Subscription xs h) unsubscribe v (λ c q. three (unsubscribe c) (change-inverse Subscription Unsubscribe c k (λ n. eqb-true _ 8 n) q)) e
+  inverse IAmStopping v k e = wrapped (read-named false xs h) (i-am-stopping (h .time)) v (λ m q. three (i-am-stopping (h .time) m) (named-inverse false IAmStopping m k (λ n. eqb-true _ 4 n) q)) e
   inverse CellStatus v k e = status-inverse v k e
 
 pub meta-inverse : (xs : List ℕ) (v : FrameV) → Octets xs → read-meta xs ≡ Ok v → (write v ≡ xs) × (carried v ≡ true)

@@ -3,7 +3,6 @@ use crate::meta_type::MetaType;
 
 mod codec;
 
-pub(crate) use codec::HEADER_LEN;
 pub(crate) use codec::header_octets;
 pub(crate) use codec::read_header;
 

@@ -27,6 +27,9 @@ pub use frame::ContentRun;
 pub use frame::Frame;
 pub use frame::RuleChange;
 
+// Where the parts of a frame stand.
+mod layout;
+
 // Words and parts of a run of octets, read and written.
 mod octets;
 

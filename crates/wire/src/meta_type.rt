@@ -1,6 +1,8 @@
 // The eleven types of Meta-AMS frame.
 ghost use mathlib.Core.Path.{_≡_};
 ghost use Rattle.wire.specs.Types.{length-right, type-number, type-of};
+use crate::layout::BOOK_LEN;
+use crate::layout::WORD_LEN;
 
 #[derive(Clone, Copy)]
 pub enum MetaType {
@@ -16,10 +18,6 @@ pub enum MetaType {
     IAmStopping,
     CellStatus,
 }
-
-const WORD_LEN: usize = 4;
-
-const BOOK_LEN: usize = 215 * WORD_LEN;
 
 impl MetaType {
     pub fn number(&self) -> u8

@@ -4,8 +4,7 @@ ghost use Prim.Native.Nat.{_+_, _*_, _<_, _≤_};
 ghost use lib.ListN.{length, drop};
 ghost use Rattle.words.specs.Words.{word-at, words-octets};
 ghost use Rattle.wire.specs.Buffers.{over};
-
-const WORD_LEN: usize = 4;
+use crate::layout::WORD_LEN;
 
 // The word whose first octet stands at `at`.
 pub(crate) fn word_at(octets: &[u8], at: usize) -> u32

@@ -17,6 +17,11 @@ use crate::frame::Frame;
 use crate::frame::RuleChange;
 use crate::header::Header;
 use crate::header::read_header;
+use crate::layout::CONTENT;
+use crate::layout::FIRST_WORD;
+use crate::layout::MOST_CONTENT;
+use crate::layout::REGISTRAR;
+use crate::layout::SECOND_WORD;
 use crate::meta_type::MetaType;
 use crate::octets::rest;
 use crate::octets::word_at;
@@ -32,20 +37,8 @@ use words::RuleKind;
 use words::WordFault;
 use words::content_length;
 
-// Where the words of a Meta-AMS frame stand.
-const FIRST_WORD: usize = 18;
-
-const SECOND_WORD: usize = 22;
-
-// Where the content of a message begins, and how long it may be.
-const CONTENT: usize = 12;
-
-const MOST_CONTENT: usize = 1_000;
-
 // A first octet from here on begins a message.
 const FIRST_OF_MESSAGES: u8 = 128;
-
-const REGISTRAR: u8 = 0;
 
 // The last two checks: the role octet, then the reference.
 fn check_ends(h: Header, role: u8, refers: bool) -> Result<(), FrameFault>

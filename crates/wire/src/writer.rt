@@ -10,16 +10,14 @@ ghost use Rattle.wire.specs.Writes.{built, change-data, data-of, message-data,
 use crate::fault::WriteFault;
 use crate::frame::Frame;
 use crate::frame::RuleChange;
-use crate::header::HEADER_LEN;
 use crate::header::header_octets;
+use crate::layout::CONTENT;
+use crate::layout::HEADER_LEN;
+use crate::layout::LONGEST;
+use crate::layout::WORD_LEN;
 use crate::octets::put;
 use crate::octets::put_words;
 use words::MessageHead;
-
-// The longest frame: three words and 1,000 octets of content.
-const LONGEST: usize = 1_012;
-
-const WORD_LEN: usize = 4;
 
 fn put_change(change: &RuleChange, buffer: &mut [u8], at: usize) -> usize
     requires { ⌜ at + 8 ≤ length (now buffer) ⌝ }
@@ -51,8 +49,8 @@ fn put_message(head: &MessageHead, content: &[u8], buffer: &mut [u8], at: usize)
     ensures count { λ r. ⌜ r ≡ 12 + length (now (content .entry)) ⌝ }
 {
     put_words(buffer, at, &head.to_words(content.len() as u16));
-    put(buffer, at + 3 * WORD_LEN, content);
-    3 * WORD_LEN + content.len()
+    put(buffer, at + CONTENT, content);
+    CONTENT + content.len()
 }
 
 // What follows the header, or a whole message; the answer is its length.

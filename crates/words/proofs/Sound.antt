@@ -82,7 +82,7 @@ module _ (xs : List ℕ) (right : (k : ℕ) → k < words-in xs → fits xs k �
   counted zero l e = (refl, refl, refl, omega arith, omega arith, refl)
   counted (suc n) l e =
       let p = none-both (first-wrong (fits xs) n) (cond (fits xs n) None (Some n)) e in
-      rw add-one at (turn xs n _ _ _ _ (word-of xs n) (counted n (omega arith) (p .0)) (none-cond (fits xs n) n (p .1)) refl refl refl)
+      rw (add-one n) at (turn xs n _ _ _ _ (word-of xs n) (counted n (omega arith) (p .0)) (none-cond (fits xs n) n (p .1)) refl refl refl)
 
   parted : (i j : ℕ) → i < j → j < words-in xs → is-member (word-of xs i) ≡ true → is-member (word-of xs j) ≡ true
       → (number-of (word-of xs i) ≡ number-of (word-of xs j) → ⊥) × (tail-of (word-of xs i) ≡ tail-of (word-of xs j) → ⊥)

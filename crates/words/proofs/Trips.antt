@@ -14,7 +14,7 @@ use Rattle.words.specs.declared.head.MessageHead.{MessageHead}
 use Rattle.words.specs.Ranges.{within}
 use Rattle.words.specs.Words.{word, kind-of, number-of, role-of, tail-of}
 use Rattle.words.specs.Records.{read-if, is-member}
-use Rattle.words.specs.Heads.{kind-number, priority-of, content-length, context-of, head-of, receiver-word, sender-word, context-word, receiver-stands, sender-stands, context-stands, in-turn, read-head}
+use Rattle.words.specs.Heads.{valid-head, kind-number, priority-of, content-length, context-of, head-of, receiver-word, sender-word, context-word, receiver-stands, sender-stands, context-stands, in-turn, read-head}
 use Rattle.words.specs.Laws.{Round-trip, Member-trip, Applicant-trip, Rule-trip, Reason-trip, Module-trip, Head-trip, Word-order}
 
 pub read-if-ok : {A : Type 0} (b : Bool) (x y : A) (at : ℕ) → read-if b x at ≡ Ok y → (b ≡ true) × (x ≡ y)
@@ -62,7 +62,7 @@ sender-back s p n w a b c e = (rw e (omega arith), rw e (omega arith), rw e (ome
 context-back : (x w : ℕ) → x < 268435456 → w ≡ 14 * 268435456 + x % 268435456 → (kind-of w ≡ 14) × (context-of w ≡ x)
 context-back x w a e = (rw e (omega arith), rw e (omega arith))
 
-pub below : (low high n : ℕ) → within low high n ≡ true → n ≤ high
+below : (low high n : ℕ) → within low high n ≡ true → n ≤ high
 below low high n h = leb-true n high (and-parts (leb low n) (leb n high) h .1)
 
 stood : (k : MessageKind) (a b c : ℕ) → receiver-stands a ≡ true → sender-stands b ≡ true → context-stands c ≡ true
@@ -82,28 +82,47 @@ sender-fields w e = search needs
 context-fields : (w : ℕ) → kind-of w ≡ 14 → 14 * 268435456 + context-of (context-of w) ≡ w
 context-fields w e = search needs
 
+-- what a valid head says of each of its fields
+pub record Head-bounds (h : MessageHead) : Type 0 where
+  pub named : (within 1 255 (h .receiver) ≡ true) × (within 1 255 (h .role) ≡ true) × (within 1 4095 (h .subject) ≡ true)
+  pub sent : (within 1 255 (h .sender) ≡ true) × (within 1 15 (h .priority) ≡ true)
+  pub receiver : h .receiver ≤ 255
+  pub role : h .role ≤ 255
+  pub subject : h .subject ≤ 4095
+  pub sender : h .sender ≤ 255
+  pub priority : h .priority ≤ 15
+  pub context : h .context ≤ 268435455
+
+pub head-bounds : (h : MessageHead) → valid-head h ≡ true → Head-bounds h
+head-bounds h v =
+    let v0 = and-parts (within 1 255 (h .receiver)) _ v in
+    let v1 = and-parts (within 1 255 (h .role)) _ (v0 .1) in
+    let v2 = and-parts (within 1 4095 (h .subject)) _ (v1 .1) in
+    let v3 = and-parts (within 1 255 (h .sender)) _ (v2 .1) in
+    let v4 = and-parts (within 1 15 (h .priority)) _ (v3 .1) in
+    record {
+      named = (v0 .0, v1 .0, v2 .0);
+      sent = (v3 .0, v4 .0);
+      receiver = below 1 255 (h .receiver) (v0 .0);
+      role = below 1 255 (h .role) (v1 .0);
+      subject = below 1 4095 (h .subject) (v2 .0);
+      sender = below 1 255 (h .sender) (v3 .0);
+      priority = below 1 15 (h .priority) (v4 .0);
+      context = leb-true _ _ (v4 .1);
+    }
+
 pub head-trip : Head-trip
 head-trip = record {
   back = λ h n v l.
-      let v0 = and-parts (within 1 255 (h .receiver)) _ v in
-      let v1 = and-parts (within 1 255 (h .role)) _ (v0 .1) in
-      let v2 = and-parts (within 1 4095 (h .subject)) _ (v1 .1) in
-      let v3 = and-parts (within 1 255 (h .sender)) _ (v2 .1) in
-      let v4 = and-parts (within 1 15 (h .priority)) _ (v3 .1) in
-      let b0 : h .receiver ≤ 255 = below 1 255 (h .receiver) (v0 .0) in
-      let b1 : h .role ≤ 255 = below 1 255 (h .role) (v1 .0) in
-      let b2 : h .subject ≤ 4095 = below 1 4095 (h .subject) (v2 .0) in
-      let b3 : h .sender ≤ 255 = below 1 255 (h .sender) (v3 .0) in
-      let b4 : h .priority ≤ 15 = below 1 15 (h .priority) (v4 .0) in
-      let b5 : h .context ≤ 268435455 = leb-true _ _ (v4 .1) in
+      let b = head-bounds h v in
       let k = kind-number (h .kind) in
       let n0 = number-back k (h .receiver) (h .role) (h .subject) (omega arith) (omega arith) (omega arith) in
       let n1 = role-back k (h .receiver) (h .role) (h .subject) (omega arith) (omega arith) (omega arith) in
       let n2 = tail-back k (h .receiver) (h .role) (h .subject) (omega arith) (omega arith) (omega arith) in
       let s = sender-back (h .sender) (h .priority) n (sender-word h n) (omega arith) (omega arith) l refl in
       let x = context-back (h .context) (context-word h) (omega arith) refl in
-      let p : receiver-stands (receiver-word h) ≡ true = rw (n0, n1, n2) (and-from _ _ (v0 .0) (and-from _ _ (v1 .0) (v2 .0))) in
-      let q : sender-stands (sender-word h n) ≡ true = rw (s .0, s .1, s .2) (and-from _ _ (v3 .0) (v4 .0)) in
+      let p : receiver-stands (receiver-word h) ≡ true = rw (n0, n1, n2) (and-from _ _ (b .named .0) (and-from _ _ (b .named .1) (b .named .2))) in
+      let q : sender-stands (sender-word h n) ≡ true = rw (s .0, s .1, s .2) (and-from _ _ (b .sent .0) (b .sent .1)) in
       let r : context-stands (context-word h) ≡ true = rw (x .0) in
       (stood (h .kind) (receiver-word h) (sender-word h n) (context-word h) p q r ∙ rw (n0, n1, n2, s .1, s .2, x .1), s .3);
   forth = λ k a b c h i e.

@@ -37,27 +37,27 @@ module _ (xs : List ℕ) (b : Book xs) where
   rising : (k : ℕ) → k < words-in xs → ascends xs k ≡ true
   rising zero h = refl
   rising (suc j) h =
-    let e : suc j - 1 ≡ j = omega arith in
-    or-right (eqb (suc j) 0) _ (rw e (lt-ltb (word-of xs j) (word-of xs (suc j)) (b .ascending j (suc j) (omega arith) h)))
+      let e : suc j - 1 ≡ j = omega arith in
+      or-right (eqb (suc j) 0) _ (rw e (lt-ltb (word-of xs j) (word-of xs (suc j)) (b .ascending j (suc j) (omega arith) h)))
 
   seat-free : (k : ℕ) → k < words-in xs → is-member (word-of xs k) ≡ true → stands xs k (Seat (number-of (word-of xs k)) (tail-of (word-of xs k))) ≡ false
   seat-free k h m =
-    none-below (λ j. answers (Seat (number-of (word-of xs k)) (tail-of (word-of xs k))) (word-of xs j)) k (λ i l.
+      none-below (λ j. answers (Seat (number-of (word-of xs k)) (tail-of (word-of xs k))) (word-of xs j)) k (λ i l.
       ⊎-elim (λ (q : is-member (word-of xs i) ≡ true). let s = b .seats i k l h q m in rw q (or-from _ _ (ne-eqb _ _ (s .0)) (ne-eqb _ _ (s .1))))
       (λ (q : is-member (word-of xs i) ≡ false). and-left _ _ q)
       (cases-bool (is-member (word-of xs i))))
 
   member-sits : (k : ℕ) → k < words-in xs → is-member (word-of xs k) ≡ true → sits xs k (word-of xs k) ≡ true
   member-sits k h m =
-    let c = counts-up (λ j. is-member (word-of xs j)) k (words-in xs) h m in
-    rw m (and-from _ _ (lt-ltb _ 15 (omega (arith, c, b .members))) (not-from-false _ (seat-free k h m)))
+      let c = counts-up (λ j. is-member (word-of xs j)) k (words-in xs) h m in
+      rw m (and-from _ _ (lt-ltb _ 15 (omega (arith, c, b .members))) (not-from-false _ (seat-free k h m)))
 
   rule-sits : (k : ℕ) → k < words-in xs → is-rule (word-of xs k) ≡ true → sits xs k (word-of xs k) ≡ true
   rule-sits k h r =
-    let c = counts-up (λ j. is-rule (word-of xs j)) k (words-in xs) h r in
-    let o = b .owned k h r in
-    let f = some-found (λ j. answers (Holder (number-of (word-of xs k))) (word-of xs j)) k (o .0) (o .1) (and-from _ _ (o .2) (eq-eqb _ _ (o .3))) in
-    rw (rule-no-member (word-of xs k) r, r) (and-from _ _ (lt-ltb _ 200 (omega (arith, c, b .rules))) f)
+      let c = counts-up (λ j. is-rule (word-of xs j)) k (words-in xs) h r in
+      let o = b .owned k h r in
+      let f = some-found (λ j. answers (Holder (number-of (word-of xs k))) (word-of xs j)) k (o .0) (o .1) (and-from _ _ (o .2) (eq-eqb _ _ (o .3))) in
+      rw (rule-no-member (word-of xs k) r, r) (and-from _ _ (lt-ltb _ 200 (omega (arith, c, b .rules))) f)
 
   all-fit : (k : ℕ) → k < words-in xs → fits xs k ≡ true
   all-fit k h = and-from _ _ (rising k h) (⊎-elim (member-sits k h) (rule-sits k h) (b .each k h))

@@ -4,6 +4,9 @@ ghost use Prim.Native.Nat.{_+_, _*_, _<_, _≤_};
 ghost use lib.ListN.{length, drop};
 ghost use Rattle.words.specs.Words.{word as word-by, kind-of, number-of, role-of, tail-of, word-at};
 
+// How many octets a word has.
+pub(crate) const WORD_LEN: usize = 4;
+
 // What one more in a field adds to the word.
 const KIND_STEP: u32 = 268_435_456;
 

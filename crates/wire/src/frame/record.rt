@@ -11,17 +11,15 @@ ghost use Rattle.wire.specs.Writes.{carried, change-carried, change-header, he
 use crate::frame::Frame;
 use crate::frame::RuleChange;
 use crate::header::Header;
+use crate::layout::MOST_CONTENT;
+use crate::layout::REGISTRAR;
 use crate::meta_type::MetaType;
 use words::Member;
 use words::RuleKind;
 
-const REGISTRAR: u8 = 0;
-
 const LAST_TIME: u64 = 1_099_511_627_775;
 // Every reference of 32 bits.
 const LAST_REFERENCE: u32 = 4_294_967_295;
-
-const MOST_CONTENT: usize = 1_000;
 
 // Whether the time tag has 40 bits.
 fn in_time(time: u64) -> bool
@@ -44,7 +42,12 @@ fn same_kind(a: RuleKind, b: RuleKind) -> bool
 fn named(kind: MetaType, role: u8, reference: u32, time: u64) -> Option<Header>
     ensures { λ r. ⌜ r ≡ Some (header kind role reference time) ⌝ }
 {
-    Some(Header { kind, role, reference, time })
+    Some(Header {
+        kind,
+        role,
+        reference,
+        time,
+    })
 }
 
 // With the member's Module ID for a reference.
@@ -79,18 +82,44 @@ impl Frame<'_> {
         ensures { λ r. ⌜ r ≡ header-of (value (now (self .entry))) ⌝ }
     {
         match self {
-            Frame::Rejection { time, reference, .. } => named(MetaType::Rejection, REGISTRAR, *reference, *time),
-            Frame::YouAreDead { time, module } => named(MetaType::YouAreDead, REGISTRAR, module.to_reference(), *time),
+            Frame::Rejection {
+                time,
+                reference,
+                ..
+            } => named(MetaType::Rejection, REGISTRAR, *reference, *time),
+            Frame::YouAreDead { time, module } => named(
+                MetaType::YouAreDead,
+                REGISTRAR,
+                module.to_reference(),
+                *time,
+            ),
             Frame::Invite(c) => c.header(MetaType::Invite),
             Frame::Disinvite(c) => c.header(MetaType::Disinvite),
-            Frame::ModuleRegistration { time, query, applicant } => {
-                named(MetaType::ModuleRegistration, applicant.role, *query, *time)
-            }
-            Frame::YouAreIn { time, query, .. } => named(MetaType::YouAreIn, REGISTRAR, *query, *time),
-            Frame::IAmStarting { time, member } => own(MetaType::IAmStarting, REGISTRAR, member, *time),
+            Frame::ModuleRegistration {
+                time,
+                query,
+                applicant,
+            } => { named(MetaType::ModuleRegistration, applicant.role, *query, *time) }
+            Frame::YouAreIn { time, query, .. } => named(
+                MetaType::YouAreIn,
+                REGISTRAR,
+                *query,
+                *time,
+            ),
+            Frame::IAmStarting { time, member } => own(
+                MetaType::IAmStarting,
+                REGISTRAR,
+                member,
+                *time,
+            ),
             Frame::Subscribe(c) => c.header(MetaType::Subscribe),
             Frame::Unsubscribe(c) => c.header(MetaType::Unsubscribe),
-            Frame::IAmStopping { time, member } => own(MetaType::IAmStopping, member.role, member, *time),
+            Frame::IAmStopping { time, member } => own(
+                MetaType::IAmStopping,
+                member.role,
+                member,
+                *time,
+            ),
             Frame::CellStatus { time, .. } => named(MetaType::CellStatus, REGISTRAR, 0, *time),
             Frame::Message { .. } => None,
         }

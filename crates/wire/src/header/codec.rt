@@ -13,10 +13,9 @@ ghost use Rattle.wire.specs.Types.{length-right};
 ghost use Rattle.wire.specs.Headers.{header-checks, header-octets, read-header};
 use crate::fault::FrameFault;
 use crate::header::Header;
+use crate::layout::HEADER_LEN;
 use crate::meta_type::MetaType;
 use crate::octets::word_at;
-
-pub(crate) const HEADER_LEN: usize = 18;
 
 const NO_VERSION_NO_CHECKSUM: u8 = 32;
 

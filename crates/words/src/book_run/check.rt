@@ -12,11 +12,10 @@ use crate::member::is_member;
 use crate::rule::is_rule;
 use crate::sought::Sought;
 use crate::tally::Tally;
+use crate::word::WORD_LEN;
 use crate::word::number_of;
 use crate::word::tail_of;
 use crate::word::word_at;
-
-const WORD_LEN: usize = 4;
 
 const MOST_MEMBERS: usize = 15;
 

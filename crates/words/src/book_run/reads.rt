@@ -17,9 +17,8 @@ use crate::fault::WordFault;
 use crate::member::Member;
 use crate::sought::Sought;
 use crate::tally::Tally;
+use crate::word::WORD_LEN;
 use crate::word::word_at;
-
-const WORD_LEN: usize = 4;
 
 // What follows the first `at` octets.
 fn rest(octets: &[u8], at: usize) -> &[u8]
