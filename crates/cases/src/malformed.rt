@@ -33,31 +33,31 @@ fn fixed_fields_are_checked_in_octet_order() -> Result<(), Fail> {
     check_eq(fault(&[0x1F; 18]), (3, 0, 2))?;
     check_eq(fault(&[0xB0; 12]), (3, 0, 2))?;
     check_eq(
-        fault(&[28, 2, 0, 1, 0, 1, 0, 0, 0, 0, 0, 0, 0, 0, 0, 0, 0, 0]),
+        fault(b"\x1C\x02\x00\x01\x00\x01\x00\x00\x00\x00\x00\x00\x00\x00\x00\x00\x00\x00"),
         (4, 1, 2),
     )?;
     check_eq(
-        fault(&[28, 1, 0, 1, 0, 1, 0, 0, 0, 0, 0, 0, 0, 0, 0, 0, 0, 0]),
+        fault(b"\x1C\x01\x00\x01\x00\x01\x00\x00\x00\x00\x00\x00\x00\x00\x00\x00\x00\x00"),
         (4, 2, 2),
     )?;
     check_eq(
-        fault(&[28, 1, 0, 0, 0, 1, 0, 0, 0, 0, 0, 0, 0, 0, 0, 0, 0, 0]),
+        fault(b"\x1C\x01\x00\x00\x00\x01\x00\x00\x00\x00\x00\x00\x00\x00\x00\x00\x00\x00"),
         (4, 5, 2),
     )?;
     check_eq(
-        fault(&[28, 1, 0, 0, 0, 0, 0, 1, 0, 0, 0, 0, 0, 0, 0, 0, 0, 0]),
+        fault(b"\x1C\x01\x00\x00\x00\x00\x00\x01\x00\x00\x00\x00\x00\x00\x00\x00\x00\x00"),
         (4, 12, 2),
     )?;
     check_eq(
-        fault(&[28, 1, 0, 0, 1, 0, 0, 1, 0, 0, 0, 1, 29, 0, 0, 0, 0, 0]),
+        fault(b"\x1C\x01\x00\x00\x01\x00\x00\x01\x00\x00\x00\x01\x1D\x00\x00\x00\x00\x00"),
         (5, 6, 2),
     )?;
     check_eq(
-        fault(&[28, 1, 0, 0, 1, 0, 0, 0, 0, 0, 0, 1, 29, 0, 0, 0, 0, 0]),
+        fault(b"\x1C\x01\x00\x00\x01\x00\x00\x00\x00\x00\x00\x01\x1D\x00\x00\x00\x00\x00"),
         (7, 4, 2),
     )?;
     check_eq(
-        fault(&[28, 1, 0, 0, 0, 0, 0, 0, 0, 0, 0, 1, 29, 0, 0, 0, 0, 0]),
+        fault(b"\x1C\x01\x00\x00\x00\x00\x00\x00\x00\x00\x00\x01\x1D\x00\x00\x00\x00\x00"),
         (7, 8, 2),
     )
 }
@@ -65,38 +65,8 @@ fn fixed_fields_are_checked_in_octet_order() -> Result<(), Fail> {
 // Members 1 and 3 of role 5 at ports 4 and 2, then a word that does not fit.
 #[test]
 fn a_wrong_word_of_a_book_is_blamed_at_its_octet() -> Result<(), Fail> {
-    let mut frame = [
-        28,
-        1,
-        0,
-        0,
-        0,
-        0,
-        0,
-        12,
-        0,
-        0,
-        0,
-        0,
-        29,
-        0,
-        0,
-        0,
-        0,
-        0,
-        0x10,
-        0x10,
-        0x50,
-        4,
-        0x10,
-        0x30,
-        0x50,
-        2,
-        0x20,
-        0x30,
-        0,
-        7,
-    ];
+    let mut frame =
+        *b"\x1C\x01\x00\x00\x00\x00\x00\x0C\x00\x00\x00\x00\x1D\x00\x00\x00\x00\x00\x10\x10\x50\x04\x10\x30\x50\x02\x20\x30\x00\x07";
     check_eq(fault(&frame), (0, 0, 0))?;
     frame[27] = 0x20;
     check_eq(fault(&frame), (6, 26, 1)).note("a rule of number 2, which no member has")?;

@@ -13,7 +13,7 @@ use crate::frame::RuleChange;
 use crate::header::Header;
 use crate::layout::MOST_CONTENT;
 use crate::layout::REGISTRAR;
-use crate::meta_type::MetaType;
+use crate::meta_type::MetaType as Type;
 use words::Member;
 use words::RuleKind;
 
@@ -39,7 +39,7 @@ fn same_kind(a: RuleKind, b: RuleKind) -> bool
     }
 }
 
-fn named(kind: MetaType, role: u8, reference: u32, time: u64) -> Option<Header>
+fn named(kind: Type, role: u8, reference: u32, time: u64) -> Option<Header>
     ensures { λ r. ⌜ r ≡ Some (header kind role reference time) ⌝ }
 {
     Some(Header {
@@ -51,14 +51,14 @@ fn named(kind: MetaType, role: u8, reference: u32, time: u64) -> Option<Header>
 }
 
 // With the member's Module ID for a reference.
-fn own(kind: MetaType, role: u8, member: &Member, time: u64) -> Option<Header>
+fn own(kind: Type, role: u8, member: &Member, time: u64) -> Option<Header>
     ensures { λ r. ⌜ r ≡ Some (header kind role (id-of (module-of (now (member .entry)))) time) ⌝ }
 {
     named(kind, role, member.module().to_reference(), time)
 }
 
 impl RuleChange {
-    fn header(&self, kind: MetaType) -> Option<Header>
+    fn header(&self, kind: Type) -> Option<Header>
         ensures { λ r. ⌜ r ≡ change-header kind (now (self .entry)) ⌝ }
     {
         own(kind, self.member.role, &self.member, self.time)
@@ -86,41 +86,26 @@ impl Frame<'_> {
                 time,
                 reference,
                 ..
-            } => named(MetaType::Rejection, REGISTRAR, *reference, *time),
+            } => named(Type::Rejection, REGISTRAR, *reference, *time),
             Frame::YouAreDead { time, module } => named(
-                MetaType::YouAreDead,
+                Type::YouAreDead,
                 REGISTRAR,
                 module.to_reference(),
                 *time,
             ),
-            Frame::Invite(c) => c.header(MetaType::Invite),
-            Frame::Disinvite(c) => c.header(MetaType::Disinvite),
+            Frame::Invite(c) => c.header(Type::Invite),
+            Frame::Disinvite(c) => c.header(Type::Disinvite),
             Frame::ModuleRegistration {
                 time,
                 query,
                 applicant,
-            } => { named(MetaType::ModuleRegistration, applicant.role, *query, *time) }
-            Frame::YouAreIn { time, query, .. } => named(
-                MetaType::YouAreIn,
-                REGISTRAR,
-                *query,
-                *time,
-            ),
-            Frame::IAmStarting { time, member } => own(
-                MetaType::IAmStarting,
-                REGISTRAR,
-                member,
-                *time,
-            ),
-            Frame::Subscribe(c) => c.header(MetaType::Subscribe),
-            Frame::Unsubscribe(c) => c.header(MetaType::Unsubscribe),
-            Frame::IAmStopping { time, member } => own(
-                MetaType::IAmStopping,
-                member.role,
-                member,
-                *time,
-            ),
-            Frame::CellStatus { time, .. } => named(MetaType::CellStatus, REGISTRAR, 0, *time),
+            } => { named(Type::ModuleRegistration, applicant.role, *query, *time) }
+            Frame::YouAreIn { time, query, .. } => named(Type::YouAreIn, REGISTRAR, *query, *time),
+            Frame::IAmStarting { time, member } => own(Type::IAmStarting, REGISTRAR, member, *time),
+            Frame::Subscribe(c) => c.header(Type::Subscribe),
+            Frame::Unsubscribe(c) => c.header(Type::Unsubscribe),
+            Frame::IAmStopping { time, member: m } => own(Type::IAmStopping, m.role, m, *time),
+            Frame::CellStatus { time, .. } => named(Type::CellStatus, REGISTRAR, 0, *time),
             Frame::Message { .. } => None,
         }
     }
