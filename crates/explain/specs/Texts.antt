@@ -3,7 +3,7 @@
 --     answer cs           the line for a line of a dump; none for one that is passed over
 use Prim.Native.Nat.{ℕ}
 use mathlib.Core.Bool.{Bool, cond, _&&_, _||_}
-use mathlib.Core.List.{List, [], _∷_, _++_}
+use mathlib.Core.List.{List, [], _++_}
 use lib.Chars.{codes}
 use lib.Dec.{eqb}
 use lib.ListN.{length, getD}
@@ -13,8 +13,6 @@ use Rattle.std.specs.declared.option.Option.the-variants.{Some, None}
 use Rattle.std.specs.declared.result.Result.{Result}
 use Rattle.std.specs.declared.result.Result.the-variants.{Ok, Err}
 use Rattle.words.specs.declared.member.Member.{Member}
-use Rattle.words.specs.declared.applicant.Applicant.{Applicant}
-use Rattle.words.specs.declared.reason.Reason.{Reason}
 use Rattle.words.specs.declared.rule.Rule.{Rule}
 use Rattle.words.specs.declared.rule_kind.RuleKind.{RuleKind}
 use Rattle.words.specs.declared.rule_kind.RuleKind.the-variants.{Subscription, Invitation}
@@ -25,7 +23,6 @@ use Rattle.words.specs.Records.{rejected-type, cause-number}
 use Rattle.words.specs.Books.{members-before, rules-before, words-in}
 use Rattle.wire.specs.declared.header.Header.{Header}
 use Rattle.wire.specs.declared.frame.RuleChange.{RuleChange}
-use Rattle.wire.specs.declared.fault.FaultCode.{FaultCode}
 use Rattle.wire.specs.declared.fault.FrameFault.{FrameFault}
 use Rattle.wire.specs.declared.meta_type.MetaType.{MetaType}
 use Rattle.wire.specs.declared.meta_type.MetaType.the-variants.{Rejection, YouAreDead, Invite, Disinvite, ModuleRegistration, YouAreIn, IAmStarting, Subscribe, Unsubscribe, IAmStopping, CellStatus}

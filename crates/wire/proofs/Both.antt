@@ -1,8 +1,8 @@
 -- Both laws of frames, for messages and Meta-AMS frames together. Assumes nothing.
 use Prim.Native.Nat.{ℕ, _+_, _<_, _≤_}
 use mathlib.Core.Path.{_≡_, refl, sym, ap, _∙_}
-use mathlib.Core.Bool.{Bool, true, false, cond, _&&_}
-use mathlib.Core.Logic.{_⊎_, inl, inr, ⊎-elim}
+use mathlib.Core.Bool.{true, false, _&&_}
+use mathlib.Core.Logic.{_⊎_, ⊎-elim}
 use mathlib.Core.List.{List, [], _∷_}
 use native.Mathlib.Omega.{arith}
 use lib.Dec.{eqb, ltb, leb}
@@ -13,7 +13,7 @@ use Rattle.std.specs.declared.option.Option.the-variants.{Some, None}
 use Rattle.std.specs.declared.result.Result.{Result}
 use Rattle.std.specs.declared.result.Result.the-variants.{Ok, Err}
 use Rattle.std.proofs.shelf.Lists.{length-drop}
-use Rattle.std.proofs.shelf.Tests.{cases-bool, eqb-true, leb-true, le-leb, le-ltb, lt-ltb, and-parts, and-from}
+use Rattle.std.proofs.shelf.Tests.{cases-bool, eqb-true, leb-true, le-ltb, lt-ltb, and-parts, and-from}
 use Rattle.words.specs.declared.message_kind.MessageKind.{MessageKind}
 use Rattle.words.specs.declared.message_kind.MessageKind.the-variants.{Published, Announced, Private}
 use Rattle.words.specs.Words.{word-at, kind-of, word-octets}
@@ -22,7 +22,7 @@ use Rattle.words.proofs.Trips.{head-trip}
 use Rattle.wire.specs.declared.fault.FrameFault.{FrameFault}
 use Rattle.wire.specs.declared.fault.FrameFault.the-variants.{Short, ContentLength}
 use Rattle.wire.specs.declared.frame.Frame.{Frame}
-use Rattle.wire.specs.Checks.{checked, up}
+use Rattle.wire.specs.Checks.{up}
 use Rattle.wire.specs.Headers.{octet}
 use Rattle.wire.specs.Frames.{FrameV, message, value, seen}
 use Rattle.wire.specs.Reads.{read, read-meta, read-message, message-by, message-in}

@@ -1,10 +1,10 @@
 -- Octets as digits of base 256. Assumes nothing.
-use Prim.Native.Nat.{ℕ, _+_, _*_, _/_, _%_, _<_, _≤_, _^_}
-use mathlib.Core.Path.{_≡_, refl, sym, ap, _∙_}
-use mathlib.Core.List.{List, [], _∷_, _++_}
+use Prim.Native.Nat.{ℕ, _+_, _*_, _/_, _%_, _<_, _≤_}
+use mathlib.Core.Path.{_≡_, refl}
+use mathlib.Core.List.{List, [], _∷_}
 use native.Mathlib.Omega.{arith}
 use native.Mathlib.Nat.{div-div-eq-div-mul, mod-eq-of-lt, add-zero}
-use lib.ListN.{length, drop, getD}
+use lib.ListN.{length, drop}
 use Rattle.std.proofs.shelf.Bits.{div-add-mod', div-below}
 use Rattle.std.proofs.shelf.Lists.{length-drop, getD-drop, drop-drop, drop-all}
 use Rattle.words.specs.Words.{word-at, word-octets}

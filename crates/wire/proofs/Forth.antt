@@ -1,33 +1,30 @@
 -- Reading what was written gives the same record. Assumes nothing.
-use Prim.Native.Nat.{ℕ, _+_, _*_, _/_, _%_, _<_, _≤_}
+use Prim.Native.Nat.{ℕ, _+_, _/_, _%_, _<_, _≤_}
 use mathlib.Core.Path.{_≡_, refl, sym, ap, _∙_}
-use mathlib.Core.Bool.{Bool, true, false, cond, _&&_}
-use mathlib.Core.List.{List, [], _∷_, _++_}
+use mathlib.Core.Bool.{Bool, true, false, cond}
+use mathlib.Core.List.{List, []}
 use native.Mathlib.Omega.{arith}
 use borrow.Author.Needs.{needs}
-use lib.Dec.{eqb, ltb, leb}
-use lib.ListN.{length, drop}
-use Rattle.std.specs.declared.option.Option.{Option}
+use lib.Dec.{ltb, leb}
+use lib.ListN.{length}
 use Rattle.std.specs.declared.option.Option.the-variants.{Some, None}
-use Rattle.std.specs.declared.result.Result.the-variants.{Ok, Err}
-use Rattle.std.proofs.shelf.Tests.{eq-eqb, eqb-true, le-leb, leb-true, lt-ltb, le-ltb, and-parts, and-from}
+use Rattle.std.specs.declared.result.Result.the-variants.{Ok}
+use Rattle.std.proofs.shelf.Tests.{eq-eqb, le-leb, leb-true, lt-ltb, le-ltb, and-parts, and-from}
 use Rattle.words.specs.declared.member.Member.{Member}
 use Rattle.words.specs.declared.applicant.Applicant.{Applicant}
 use Rattle.words.specs.declared.module_id.ModuleId.{ModuleId}
 use Rattle.words.specs.declared.rule.Rule.{Rule}
 use Rattle.words.specs.declared.reason.Reason.{Reason}
-use Rattle.words.specs.declared.reason.Rejected.the-variants.{Invite as invites, Subscribe as subscribes}
-use Rattle.words.specs.declared.reason.Cause.the-variants.{RuleListFull}
 use Rattle.words.specs.declared.rule_kind.RuleKind.{RuleKind}
 use Rattle.words.specs.declared.rule_kind.RuleKind.the-variants.{Subscription, Invitation}
 use Rattle.words.specs.declared.head.MessageHead.{MessageHead}
 use Rattle.words.specs.declared.message_kind.MessageKind.{MessageKind}
 use Rattle.words.specs.declared.message_kind.MessageKind.the-variants.{Published, Announced, Private}
 use Rattle.words.specs.Ranges.{within}
-use Rattle.words.specs.Words.{word, kind-of, word-octets}
-use Rattle.words.specs.Records.{valid-member, valid-applicant, valid-module, valid-rule, member-word, applicant-word, rule-word, reason-word, id-of, module-of, is-module, module-in, read-module}
-use Rattle.words.specs.Heads.{valid-head, kind-number, message-kind, receiver-word, sender-word, context-word, content-length, read-head}
-use Rattle.words.specs.Books.{book-sound, has-word, wrong-word, read-book}
+use Rattle.words.specs.Words.{kind-of, word-octets}
+use Rattle.words.specs.Records.{valid-member, valid-applicant, valid-module, valid-rule, member-word, applicant-word, rule-word, reason-word, id-of, module-of, is-module, module-in}
+use Rattle.words.specs.Heads.{valid-head, kind-number, message-kind, receiver-word, sender-word, context-word}
+use Rattle.words.specs.Books.{book-sound}
 use Rattle.words.proofs.Trips.{head-bounds, member-trip, applicant-trip, rule-trip, reason-trip, module-trip, head-trip}
 use Rattle.words.proofs.Sound.{sound-is-book, sound-none, sound-small}
 use Rattle.wire.specs.declared.frame.RuleChange.{RuleChange}
@@ -36,8 +33,8 @@ use Rattle.wire.specs.declared.meta_type.MetaType.{MetaType}
 use Rattle.wire.specs.declared.meta_type.MetaType.the-variants.{Rejection, YouAreDead, Invite, Disinvite, ModuleRegistration, YouAreIn, IAmStarting, Subscribe, Unsubscribe, IAmStopping, CellStatus}
 use Rattle.wire.specs.Types.{length-right}
 use Rattle.wire.specs.Headers.{header, header-octets}
-use Rattle.wire.specs.Frames.{FrameV, rejection, you-are-dead, invite, disinvite, module-registration, you-are-in, i-am-starting, subscribe, unsubscribe, i-am-stopping, cell-status, message}
-use Rattle.wire.specs.Reads.{read, read-change, read-named, read-message, message-in, by-type}
+use Rattle.wire.specs.Frames.{rejection, you-are-dead, invite, disinvite, module-registration, you-are-in, i-am-starting, subscribe, unsubscribe, i-am-stopping, cell-status, message}
+use Rattle.wire.specs.Reads.{read, read-change, read-named, by-type}
 use Rattle.wire.specs.Writes.{write, carried, change-carried, change-data, message-data, in-time, same-kind}
 use Rattle.wire.specs.Laws.{Read-written}
 use Rattle.wire.proofs.Digits.{word-back}

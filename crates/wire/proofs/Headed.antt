@@ -1,26 +1,24 @@
 -- The header, both ways. Assumes nothing.
-use Prim.Native.Nat.{ℕ, _+_, _-_, _*_, _/_, _%_, _<_, _≤_}
-use mathlib.Core.Path.{_≡_, refl, sym, ap, _∙_}
-use mathlib.Core.Logic.{_⊎_, inl, inr, ⊎-elim}
-use mathlib.Core.Bool.{Bool, true, false, cond, _&&_}
+use Prim.Native.Nat.{ℕ, _+_, _/_, _%_, _<_, _≤_}
+use mathlib.Core.Path.{_≡_, refl, sym}
+use mathlib.Core.Logic.{_⊎_, ⊎-elim}
+use mathlib.Core.Bool.{true, false}
 use mathlib.Core.List.{List, [], _∷_, _++_, map}
 use native.Mathlib.Omega.{arith}
-use lib.Dec.{eqb, ltb, leb}
+use lib.Dec.{eqb, ltb}
 use lib.ListN.{length, drop, take, getD}
 use Rattle.std.specs.Iters.{counting}
 use Rattle.std.specs.declared.option.Option.{Option}
 use Rattle.std.specs.declared.option.Option.the-variants.{Some, None}
-use Rattle.std.specs.declared.result.Result.{Result}
-use Rattle.std.specs.declared.result.Result.the-variants.{Ok, Err}
+use Rattle.std.specs.declared.result.Result.the-variants.{Ok}
 use Rattle.std.proofs.shelf.Counted.{fill-by-all}
 use Rattle.std.proofs.shelf.Lists.{length-drop, length-take-le, getD-take, take-append-drop}
-use Rattle.std.proofs.shelf.Tests.{eq-eqb, eqb-true, le-leb, leb-true, lt-ltb, ltb-true, and-parts, cases-bool}
-use Rattle.words.specs.Words.{word-at, word-octets}
-use Rattle.wire.specs.declared.fault.FrameFault.{FrameFault}
+use Rattle.std.proofs.shelf.Tests.{eq-eqb, eqb-true, leb-true, lt-ltb, and-parts, cases-bool}
+use Rattle.words.specs.Words.{word-at}
 use Rattle.wire.specs.declared.meta_type.MetaType.{MetaType}
 use Rattle.wire.specs.declared.meta_type.MetaType.the-variants.{Rejection, YouAreDead, Invite, Disinvite, ModuleRegistration, YouAreIn, IAmStarting, Subscribe, Unsubscribe, IAmStopping, CellStatus}
 use Rattle.wire.specs.declared.header.Header.{Header}
-use Rattle.wire.specs.Checks.{checked, passing, and-then}
+use Rattle.wire.specs.Checks.{passing, and-then}
 use Rattle.wire.specs.Types.{type-number, type-of, numbered, all-types, length-right}
 use Rattle.wire.specs.Headers.{octet, header, header-in, header-by, header-checks, first-checks, typed, read-header, header-octets, supplement, time-of}
 use Rattle.wire.specs.Reads.{read, by-type}

@@ -1,26 +1,23 @@
 -- Writing what was read gives the same octets, and what was read can be written. Assumes nothing.
-use Prim.Native.Nat.{ℕ, _+_, _*_, _/_, _%_, _<_, _≤_}
-use mathlib.Core.Path.{_≡_, refl, sym, ap, _∙_}
+use Prim.Native.Nat.{ℕ, _+_, _<_, _≤_}
+use mathlib.Core.Path.{_≡_, refl, sym, ap}
 use mathlib.Core.Bool.{Bool, true, false, cond, _&&_}
-use mathlib.Core.Logic.{_⊎_, inl, inr, ⊎-elim}
-use mathlib.Core.List.{List, [], _∷_, _++_}
+use mathlib.Core.List.{List, [], _∷_}
 use native.Mathlib.Omega.{arith}
 use lib.Dec.{eqb, ltb, leb}
 use lib.ListN.{length, drop}
 use Rattle.std.specs.declared.option.Option.{Option}
 use Rattle.std.specs.declared.option.Option.the-variants.{Some, None}
 use Rattle.std.specs.declared.result.Result.{Result}
-use Rattle.std.specs.declared.result.Result.the-variants.{Ok, Err}
-use Rattle.std.proofs.shelf.Tests.{cases-bool, eq-eqb, eqb-true, le-leb, leb-true, lt-ltb, ltb-true, and-parts, and-from}
+use Rattle.std.specs.declared.result.Result.the-variants.{Ok}
+use Rattle.std.proofs.shelf.Tests.{eqb-true, le-leb, leb-true, ltb-true, and-parts, and-from}
 use Rattle.std.proofs.shelf.Lists.{drop-all}
-use Rattle.words.specs.declared.fault.WordFault.{WordFault}
 use Rattle.words.specs.declared.member.Member.{Member}
-use Rattle.words.specs.declared.module_id.ModuleId.{ModuleId}
 use Rattle.words.specs.declared.rule_kind.RuleKind.{RuleKind}
 use Rattle.words.specs.declared.rule_kind.RuleKind.the-variants.{Subscription, Invitation}
 use Rattle.words.specs.Ranges.{within}
 use Rattle.words.specs.Words.{word-at, word-octets}
-use Rattle.words.specs.Records.{valid-member, valid-applicant, valid-module, valid-rule, member-word, applicant-word, rule-word, reason-word, id-of, module-of, is-module, module-in, read-member, read-applicant, read-rule, read-reason}
+use Rattle.words.specs.Records.{valid-member, member-word, applicant-word, rule-word, reason-word, id-of, module-of, is-module, module-in, read-member, read-applicant, read-rule, read-reason}
 use Rattle.words.specs.Books.{book-sound, has-word, wrong-word, read-book, placed, is-none}
 use Rattle.words.proofs.Trips.{member-trip, applicant-trip, rule-trip, reason-trip, module-trip}
 use Rattle.wire.specs.declared.fault.FrameFault.{FrameFault}
@@ -29,11 +26,11 @@ use Rattle.wire.specs.declared.frame.RuleChange.{RuleChange}
 use Rattle.wire.specs.declared.header.Header.{Header}
 use Rattle.wire.specs.declared.meta_type.MetaType.{MetaType}
 use Rattle.wire.specs.declared.meta_type.MetaType.the-variants.{Rejection, YouAreDead, Invite, Disinvite, ModuleRegistration, YouAreIn, IAmStarting, Subscribe, Unsubscribe, IAmStopping, CellStatus}
-use Rattle.wire.specs.Checks.{and-then, up}
+use Rattle.wire.specs.Checks.{up}
 use Rattle.wire.specs.Types.{length-right}
-use Rattle.wire.specs.Headers.{header, header-octets, read-header}
-use Rattle.wire.specs.Frames.{FrameV, rejection, you-are-dead, invite, disinvite, module-registration, you-are-in, i-am-starting, subscribe, unsubscribe, i-am-stopping, cell-status, message}
-use Rattle.wire.specs.Reads.{ends, refers-to, wrong-at, by-type, read-rejection, read-dead, read-own-rule, read-change, read-registration, read-you-are-in, read-named, read-status, read-meta}
+use Rattle.wire.specs.Headers.{header, read-header}
+use Rattle.wire.specs.Frames.{FrameV, rejection, you-are-dead, invite, disinvite, module-registration, you-are-in, i-am-starting, subscribe, unsubscribe, i-am-stopping, cell-status}
+use Rattle.wire.specs.Reads.{made-of, ends, refers-to, wrong-at, by-type, read-rejection, read-dead, read-own-rule, read-change, read-registration, read-you-are-in, read-named, read-status, read-meta}
 use Rattle.wire.specs.Writes.{write, header-of, data-of, carried, change-carried, change-data, in-time, same-kind}
 use Rattle.wire.specs.Laws.{Octets}
 use Rattle.wire.proofs.Digits.{word-then, word-last}
@@ -200,7 +197,7 @@ module _ (xs : List ℕ) (h : Header) (o : Octets xs) (hr : Header-read xs h) wh
 
   -- a record that was read, in the frame of its type
   wrapped : {A : Type 0} (r : Result A FrameFault) (make : A → FrameV) (v : FrameV) → ((x : A) → r ≡ Ok x → Inverse xs h (make x))
-      → (and-then r λ x. Ok (make x)) ≡ Ok v → Inverse xs h v
+      → made-of make r ≡ Ok v → Inverse xs h v
   wrapped r make v f e =
       let t = then-ok r _ v e in
       let g : make (t .0) ≡ v = ok-is _ v (t .2) in

@@ -1,14 +1,14 @@
 -- What is known where a reader gave a value. Assumes nothing.
 use Prim.Native.Nat.{ℕ}
 use mathlib.Core.Path.{_≡_, refl}
-use mathlib.Core.Bool.{Bool, true, false, cond}
+use mathlib.Core.Bool.{Bool, true, false}
 use mathlib.Core.List.{List, [], _∷_}
 use native.Mathlib.Omega.{arith}
 use Rattle.std.specs.declared.result.Result.{Result}
 use Rattle.std.specs.declared.result.Result.the-variants.{Ok, Err}
 use Rattle.words.specs.declared.fault.WordFault.{WordFault}
 use Rattle.wire.specs.declared.fault.FrameFault.{FrameFault}
-use Rattle.wire.specs.Checks.{checked, passing, and-then, up}
+use Rattle.wire.specs.Checks.{checked, and-then, up}
 
 -- every check held
 abbrev pub Passed : List (Bool × FrameFault) → Type 0

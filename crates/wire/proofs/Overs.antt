@@ -1,16 +1,15 @@
 -- Octets written one after the other over a buffer. Assumes nothing.
-use Prim.Native.Nat.{ℕ, _+_, _-_, _*_, _≤_, _<_}
+use Prim.Native.Nat.{ℕ, _+_, _*_, _≤_, _<_}
 use mathlib.Core.Path.{_≡_, refl, sym, ap, _∙_}
 use mathlib.Core.List.{List, [], _∷_, _++_}
 use native.Mathlib.Omega.{arith}
 use native.Mathlib.Nat.{add-zero, zero-add, add-assoc}
 use lib.ListN.{length, take, drop, getD}
 use borrow.Rule.Slice.PartMut.{putMid}
-use Rattle.std.specs.shelf.Lists.{joined}
-use Rattle.std.proofs.shelf.Lists.{append-assoc, append-nil, length-append, length-take-le, take-at, drop-at, drop-drop, take-append-drop, take-more, joined-more}
+use Rattle.std.proofs.shelf.Lists.{append-assoc, length-append, length-take-le, take-at, drop-at, drop-drop, take-append-drop, take-more, joined-more}
 use Rattle.words.specs.Words.{word-octets, words-octets}
 use Rattle.std.proofs.shelf.Tests.{cond-true, lt-ltb}
-use Rattle.std.specs.declared.option.Option.the-variants.{Some, None}
+use Rattle.std.specs.declared.option.Option.the-variants.{Some}
 use Rattle.std.specs.declared.result.Result.the-variants.{Err}
 use Rattle.wire.specs.declared.header.Header.{Header}
 use Rattle.wire.specs.declared.fault.WriteFault.the-variants.{ShortBuffer}
@@ -69,12 +68,6 @@ framed v h d b n e k l g =
     let w : write v ≡ header-octets h n (data-of v) = rw (e, ← k) in
     let m : 18 + length (data-of v) ≡ 18 + n = ap (λ z. 18 + z) (sym k) in
     (over-front d b (header-octets h n []) (data-of v) 18 l refl g ∙ rw (w, m), rw w (omega (arith, k)))
-
-pub unheaded : (v : FrameV) (d b : List ℕ) (n : ℕ) → header-of v ≡ None → n ≡ length (data-of v) → b ≡ over d 0 (data-of v)
-    → (b ≡ write v ++ drop n d) × (n ≡ length (write v))
-unheaded v d b n e k g =
-    let w : write v ≡ data-of v = rw e in
-    (g ∙ rw (w, k) (ap (λ z. data-of v ++ drop z d) (zero-add (length (data-of v)))), rw w k)
 
 pub short-answer : (n : ℕ) (v : FrameV) → n < 1012 → Err ShortBuffer ≡ write-answer n v
 short-answer n v l = sym (cond-true _ _ _ (lt-ltb n 1012 l))

@@ -1,7 +1,6 @@
 -- Steps of the reader. Assumes nothing.
 use Prim.Native.Nat.{ℕ, _≤_, _<_}
-use mathlib.Core.Path.{_≡_, refl, sym, ap, _∙_}
-use mathlib.Core.Bool.{true, false}
+use mathlib.Core.Path.{_≡_}
 use mathlib.Core.List.{List}
 use lib.ListN.{length}
 use Rattle.std.proofs.shelf.Tests.{le-leb, lt-ltb}
@@ -11,10 +10,9 @@ use Rattle.words.specs.declared.message_kind.MessageKind.{MessageKind}
 use Rattle.words.specs.Words.{word-at, kind-of}
 use Rattle.words.specs.Heads.{message-kind}
 use Rattle.wire.specs.declared.meta_type.MetaType.{MetaType}
-use Rattle.wire.specs.declared.header.Header.{Header}
 use Rattle.wire.specs.Checks.{passing}
 use Rattle.wire.specs.Types.{type-of}
-use Rattle.wire.specs.Headers.{octet, read-header, header-checks, header-in, header, time-of}
+use Rattle.wire.specs.Headers.{octet, read-header, header-checks, header, time-of}
 use Rattle.wire.specs.Reads.{message-in, read-message}
 
 pub message-some : (xs : List ℕ) (k : MessageKind) (a b c : ℕ) → 12 ≤ length xs → a ≡ word-at xs 0 → b ≡ word-at xs 4 → c ≡ word-at xs 8

@@ -3,7 +3,6 @@
 --     write-fault-of f   of a refusal to write
 --     layer-number l     1 word, 2 frame, 3 above
 use Prim.Native.Nat.{ℕ}
-use Rattle.words.specs.declared.fault.WordFault.{WordFault}
 use Rattle.wire.specs.declared.fault.FaultCode.{FaultCode}
 use Rattle.wire.specs.declared.fault.Layer.{Layer}
 use Rattle.wire.specs.declared.fault.Layer.the-variants.{Word, Frame, Above}

@@ -4,7 +4,7 @@
 --     by-type k           the frame of type k
 --     read xs             the frame in the octets xs
 use Prim.Native.Nat.{ℕ, _+_}
-use mathlib.Core.Bool.{Bool, true, false, cond, _&&_, not}
+use mathlib.Core.Bool.{Bool, true, false, cond, _&&_}
 use mathlib.Core.List.{List, [], _∷_}
 use lib.Dec.{eqb, ltb, leb}
 use lib.ListN.{length, drop}
@@ -12,7 +12,6 @@ use Rattle.std.specs.declared.option.Option.{Option}
 use Rattle.std.specs.declared.option.Option.the-variants.{Some, None}
 use Rattle.std.specs.declared.result.Result.{Result}
 use Rattle.std.specs.declared.result.Result.the-variants.{Ok, Err}
-use Rattle.words.specs.declared.fault.WordFault.{WordFault}
 use Rattle.words.specs.declared.member.Member.{Member}
 use Rattle.words.specs.declared.rule.Rule.{Rule}
 use Rattle.words.specs.declared.rule_kind.RuleKind.{RuleKind}
@@ -64,9 +63,6 @@ read-change k xs h =
     and-then (ends h (m .role) (refers-to h m)) λ _.
     Ok (record { time = h .time; member = m; rule = u })
 
-abbrev pub change-as : (RuleChange → FrameV) → Result RuleChange FrameFault → Result FrameV FrameFault
-change-as make r = and-then r λ c. Ok (make c)
-
 abbrev pub read-registration : List ℕ → Header → Result FrameV FrameFault
 read-registration xs h =
     and-then (up (read-applicant (word-at xs 18) 18)) λ a.
@@ -89,8 +85,9 @@ read-named registrar xs h =
     and-then (ends h (cond registrar 0 (m .role)) (refers-to h m)) λ _.
     Ok m
 
-abbrev pub named-as : (Member → FrameV) → Result Member FrameFault → Result FrameV FrameFault
-named-as make r = and-then r λ m. Ok (make m)
+-- the frame that is made of a record
+abbrev pub made-of : {A : Type 0} → (A → FrameV) → Result A FrameFault → Result FrameV FrameFault
+made-of make r = and-then r λ x. Ok (make x)
 
 abbrev pub read-status : List ℕ → Header → Result FrameV FrameFault
 read-status xs h =
@@ -101,14 +98,14 @@ read-status xs h =
 abbrev pub by-type : MetaType → List ℕ → Header → Result FrameV FrameFault
 by-type Rejection xs h = read-rejection xs h
 by-type YouAreDead xs h = read-dead h
-by-type Invite xs h = change-as invite (read-change Invitation xs h)
-by-type Disinvite xs h = change-as disinvite (read-change Invitation xs h)
+by-type Invite xs h = made-of invite (read-change Invitation xs h)
+by-type Disinvite xs h = made-of disinvite (read-change Invitation xs h)
 by-type ModuleRegistration xs h = read-registration xs h
 by-type YouAreIn xs h = read-you-are-in xs h
-by-type IAmStarting xs h = named-as (i-am-starting (h .time)) (read-named true xs h)
-by-type Subscribe xs h = change-as subscribe (read-change Subscription xs h)
-by-type Unsubscribe xs h = change-as unsubscribe (read-change Subscription xs h)
-by-type IAmStopping xs h = named-as (i-am-stopping (h .time)) (read-named false xs h)
+by-type IAmStarting xs h = made-of (i-am-starting (h .time)) (read-named true xs h)
+by-type Subscribe xs h = made-of subscribe (read-change Subscription xs h)
+by-type Unsubscribe xs h = made-of unsubscribe (read-change Subscription xs h)
+by-type IAmStopping xs h = made-of (i-am-stopping (h .time)) (read-named false xs h)
 by-type CellStatus xs h = read-status xs h
 
 abbrev pub read-meta : List ℕ → Result FrameV FrameFault

@@ -1,11 +1,11 @@
 -- The loop over the words of a book: one turn, and what a wrong word leaves. Assumes nothing.
 use Prim.Native.Nat.{ℕ, _+_, _≤_, _<_}
-use mathlib.Core.Path.{_≡_, refl, sym, ap, _∙_}
-use mathlib.Core.Bool.{Bool, true, false, cond, _&&_, _||_, not}
+use mathlib.Core.Path.{_≡_, _∙_}
+use mathlib.Core.Bool.{Bool, true, false, cond}
 use mathlib.Core.Logic.{_⊎_, inl, inr, ⊎-elim}
 use mathlib.Core.List.{List}
 use native.Mathlib.Omega.{arith}
-use lib.Dec.{eqb, ltb}
+use lib.Dec.{eqb}
 use Rattle.std.proofs.shelf.Tests.{cases-bool, and-parts, and-left, or-from, eqb-true, ne-eqb, ltb-true}
 use Rattle.std.specs.declared.option.Option.the-variants.{Some, None}
 use Rattle.words.specs.Words.{kind-of}

@@ -1,21 +1,21 @@
 -- A run in which no word is wrong is a book. Assumes nothing.
-use Prim.Native.Nat.{ℕ, zero, suc, _+_, _-_, _*_, _/_, _%_, _<_, _≤_}
-use mathlib.Core.Path.{_≡_, refl, sym, ap, _∙_}
-use mathlib.Core.Bool.{Bool, true, false, cond, _&&_, _||_, not}
+use Prim.Native.Nat.{ℕ, zero, suc, _-_, _%_, _<_, _≤_}
+use mathlib.Core.Path.{_≡_, refl}
+use mathlib.Core.Bool.{Bool, true, false, cond}
 use mathlib.Core.Logic.{_⊎_, inl, inr, ⊎-elim}
 use mathlib.Core.List.{List}
 use native.Mathlib.Omega.{arith}
 use native.Mathlib.Numerals.{add-one}
 use lib.Dec.{eqb, ltb}
 use lib.ListN.{length}
-use Rattle.std.proofs.shelf.Tests.{cases-bool, cases-eq, and-parts, or-parts, or-cases, eqb-true, eqb-false, ltb-true, not-true, and-cases}
+use Rattle.std.proofs.shelf.Tests.{cases-bool, cases-eq, and-parts, or-parts, or-cases, eqb-true, eqb-false, ltb-true, not-true}
 use Rattle.std.specs.declared.option.Option.{Option}
 use Rattle.std.specs.declared.option.Option.the-variants.{Some, None}
 use Rattle.words.specs.Words.{number-of, tail-of}
 use Rattle.words.specs.Records.{is-member, is-rule}
 use Rattle.words.specs.declared.sought.Sought.the-variants.{Seat, Holder}
 use Rattle.words.specs.Books.{some-below, first-wrong, or-else, is-none, wrong-word, words-in, word-of, fits, sits, ascends, stands, answers, members-before, rules-before, book-sound}
-use Rattle.words.specs.Laws.{Book, Sound-is-book}
+use Rattle.words.specs.Laws.{Sound-is-book}
 use Rattle.words.proofs.Books.{Turned, turn, one-more, member-no-rule}
 
 none-of : (o : Option ℕ) → is-none o ≡ true → o ≡ None

@@ -1,12 +1,11 @@
 -- Each record and its word, both ways; the order of words. Assumes nothing.
-use Prim.Native.Nat.{ℕ, _+_, _*_, _/_, _%_, _<_, _≤_}
+use Prim.Native.Nat.{ℕ, _+_, _*_, _%_, _<_, _≤_}
 use mathlib.Core.Path.{_≡_, refl, _∙_}
 use mathlib.Core.Bool.{Bool, true, false}
 use lib.Dec.{eqb, leb}
 use native.Mathlib.Omega.{arith}
 use borrow.Author.Needs.{needs}
 use Rattle.std.specs.declared.result.Result.the-variants.{Ok}
-use Rattle.std.specs.declared.option.Option.the-variants.{Some}
 use Rattle.words.specs.declared.rule_kind.RuleKind.the-variants.{Subscription, Invitation}
 use Rattle.std.proofs.shelf.Tests.{and-parts, and-from, eqb-true, leb-true, le-leb}
 use Rattle.words.specs.declared.message_kind.MessageKind.{MessageKind}
@@ -15,7 +14,7 @@ use Rattle.words.specs.Ranges.{within}
 use Rattle.words.specs.Words.{word, kind-of, number-of, role-of, tail-of}
 use Rattle.words.specs.Records.{read-if, is-member}
 use Rattle.words.specs.Heads.{valid-head, kind-number, priority-of, content-length, context-of, head-of, receiver-word, sender-word, context-word, receiver-stands, sender-stands, context-stands, in-turn, read-head}
-use Rattle.words.specs.Laws.{Round-trip, Member-trip, Applicant-trip, Rule-trip, Reason-trip, Module-trip, Head-trip, Word-order}
+use Rattle.words.specs.Laws.{Member-trip, Applicant-trip, Rule-trip, Reason-trip, Module-trip, Head-trip, Word-order}
 
 pub read-if-ok : {A : Type 0} (b : Bool) (x y : A) (at : ℕ) → read-if b x at ≡ Ok y → (b ≡ true) × (x ≡ y)
 read-if-ok true x y at e = (refl, cc)

@@ -1,18 +1,18 @@
 -- In a book no word is wrong. Assumes nothing.
-use Prim.Native.Nat.{ℕ, zero, suc, _+_, _-_, _*_, _/_, _%_, _<_, _≤_}
-use mathlib.Core.Path.{_≡_, refl, sym, ap, _∙_}
-use mathlib.Core.Bool.{Bool, true, false, cond, _&&_, _||_, not}
-use mathlib.Core.Logic.{_⊎_, inl, inr, ⊎-elim}
+use Prim.Native.Nat.{ℕ, zero, suc, _-_, _%_, _<_}
+use mathlib.Core.Path.{_≡_, refl}
+use mathlib.Core.Bool.{Bool, true, false}
+use mathlib.Core.Logic.{_⊎_, ⊎-elim}
 use mathlib.Core.List.{List}
 use native.Mathlib.Omega.{arith}
-use lib.Dec.{eqb, ltb}
+use lib.Dec.{eqb}
 use lib.ListN.{length}
-use Rattle.std.proofs.shelf.Tests.{cases-bool, cases-eq, and-from, and-left, or-from, or-left, or-right, eq-eqb, ne-eqb, lt-ltb, not-from-false}
-use Rattle.std.specs.declared.option.Option.the-variants.{Some, None}
+use Rattle.std.proofs.shelf.Tests.{cases-bool, cases-eq, and-from, and-left, or-from, or-right, eq-eqb, ne-eqb, lt-ltb, not-from-false}
+use Rattle.std.specs.declared.option.Option.the-variants.{None}
 use Rattle.words.specs.Words.{number-of, tail-of}
 use Rattle.words.specs.Records.{is-member, is-rule}
 use Rattle.words.specs.declared.sought.Sought.the-variants.{Seat, Holder}
-use Rattle.words.specs.Books.{some-below, count-below, first-wrong, is-none, wrong-word, words-in, word-of, fits, sits, ascends, stands, answers, members-before, rules-before, book-sound}
+use Rattle.words.specs.Books.{some-below, count-below, first-wrong, words-in, word-of, fits, sits, ascends, stands, answers}
 use Rattle.words.specs.Laws.{Book, Book-is-sound}
 use Rattle.words.proofs.Search.{some-found}
 use Rattle.words.proofs.Sound.{rule-no-member}

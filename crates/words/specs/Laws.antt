@@ -3,20 +3,18 @@
 --     Word-order         the numeric order of words is the order of (kind, number, role, tail)
 --     Book xs            what a book is, in octets: the words of at most 15 members and then at most 200 rules,
 --                        ascending, no number and no port twice, each rule's number a member's
-use Prim.Native.Nat.{ℕ, _+_, _*_, _%_, _<_, _≤_}
+use Prim.Native.Nat.{ℕ, _%_, _<_, _≤_}
 use mathlib.Core.Path.{_≡_}
 use mathlib.Core.List.{List}
-use mathlib.Core.Bool.{Bool, true, _&&_, _||_}
+use mathlib.Core.Bool.{true}
 use mathlib.Core.Logic.{_⊎_}
 use lib.Dec.{ltb}
 use lib.ListN.{length}
-use Rattle.std.specs.declared.option.Option.{Option}
 use Rattle.std.specs.declared.option.Option.the-variants.{Some}
 use Rattle.std.specs.declared.result.Result.{Result}
 use Rattle.std.specs.declared.result.Result.the-variants.{Ok}
 use Rattle.words.specs.declared.fault.WordFault.{WordFault}
 use Rattle.words.specs.declared.rule_kind.RuleKind.{RuleKind}
-use Rattle.words.specs.declared.rule.Rule.{Rule}
 use Rattle.words.specs.declared.reason.Reason.{Reason}
 use Rattle.words.specs.declared.module_id.ModuleId.{ModuleId}
 use Rattle.words.specs.declared.head.MessageHead.{MessageHead}

@@ -1,7 +1,7 @@
 // The four fields of a word, and words among octets.
 ghost use mathlib.Core.Path.{_≡_};
-ghost use Prim.Native.Nat.{_+_, _*_, _<_, _≤_};
-ghost use lib.ListN.{length, drop};
+ghost use Prim.Native.Nat.{_+_, _*_, _<_};
+ghost use lib.ListN.{length};
 ghost use Rattle.words.specs.Words.{word as word-by, kind-of, number-of, role-of, tail-of, word-at};
 
 // How many octets a word has.

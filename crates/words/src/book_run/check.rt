@@ -2,8 +2,7 @@
 ghost use mathlib.Core.Path.{_≡_};
 ghost use mathlib.Core.Bool.{cond};
 ghost use Prim.Native.Nat.{_+_, _-_, _*_, _<_, _≤_, _/_, _%_, _^_};
-ghost use lib.ListN.{length, drop};
-ghost use Rattle.words.specs.Words.{number-of, tail-of};
+ghost use lib.ListN.{length};
 ghost use Rattle.std.specs.Slices.{found};
 ghost use Rattle.std.specs.declared.option.Option.the-variants.{None};
 ghost use Rattle.words.specs.Records.{is-member, is-rule};

@@ -1,7 +1,7 @@
 -- The loop scans the line character by character.
 use Prim.Native.Nat.{_+_}
 use Rattle.std.specs.Of.Vec.{vec-items}
-use Rattle.explain.specs.Hex.{scanned, broken}
+use Rattle.explain.specs.Hex.{broken}
 use Rattle.explain.proofs.Scans.{scan-more, scan-broken, scan-failed, scan-went, scan-whole, scan-part}
 use Rattle.explain.proofs.hex.from_hex.Needs as need
 

@@ -1,7 +1,5 @@
 -- Each turn adds the digits of one octet.
 use mathlib.Core.Path.{_≡_}
-use native.Mathlib.Omega.{arith}
-use lib.ListN.{length}
 use Rattle.std.specs.Of.String.{string-bytes}
 use Rattle.std.proofs.shelf.Lists.{take-all}
 use Rattle.explain.specs.Hex.{hexed}

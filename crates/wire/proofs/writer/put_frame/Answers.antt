@@ -2,7 +2,7 @@
 use mathlib.Core.Path.{sym, _∙_}
 use native.Mathlib.Omega.{arith}
 use Rattle.wire.specs.Frames.{value}
-use Rattle.wire.proofs.Overs.{framed, unheaded}
+use Rattle.wire.proofs.Overs.{framed}
 use Rattle.wire.proofs.writer.put_frame.Needs as need
 
 pub returns-in-Some : need.returns-in-Some

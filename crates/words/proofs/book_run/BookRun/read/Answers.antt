@@ -1,8 +1,7 @@
 -- The wrong word lies within the frame.
 use native.Mathlib.Omega.{arith}
 use lib.ListN.{length, length-drop}
-use Prim.Native.Nat.{_≤_, _*_}
-use mathlib.Core.Path.{_≡_, ap, _∙_}
+use mathlib.Core.Path.{ap}
 use Rattle.words.proofs.book_run.BookRun.read.Needs as need
 
 pub mul-result : need.mul-result

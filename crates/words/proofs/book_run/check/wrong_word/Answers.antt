@@ -1,9 +1,7 @@
 -- The first word that does not fit ends the loop; while all fit, the tally counts them.
-use Prim.Native.Nat.{ℕ, _≤_, _*_}
+use Prim.Native.Nat.{ℕ}
 use mathlib.Core.Path.{_≡_, sym}
 use native.Mathlib.Omega.{arith}
-use borrow.Author.Needs.{needs}
-use lib.ListN.{length}
 use Rattle.words.specs.Books.{fits, words-in}
 use Rattle.words.proofs.Search.{first-found}
 use Rattle.words.proofs.Books.{turn, wrong-found}
