@@ -1,0 +1,4 @@
+-- What the contracts of this crate cite.
+pub mod Plain
+pub mod Names
+pub mod Entries
