@@ -6,3 +6,4 @@ pub mod Heads
 pub mod Books
 pub mod Runs
 pub mod Laws
+pub mod Keys

@@ -37,6 +37,17 @@ mod rule;
 pub use rule::Rule;
 pub use rule::RulePartialEq;
 
+// Members and rules as records of the ordered table.
+mod rule_key;
+
+pub use rule_key::RuleKey;
+
+mod keys;
+
+pub use keys::MemberRecord;
+pub use keys::RuleKeyOrder;
+pub use keys::RuleRecord;
+
 // Why a request was rejected.
 mod reason;
 

@@ -14,7 +14,7 @@ use crate::word::word;
 
 impl RuleKind {
     // The kind of the word that carries such a rule.
-    fn number(&self) -> u8
+    pub(crate) fn number(&self) -> u8
         ensures { λ r. ⌜ r ≡ rule-kind-number (now (self .entry)) ⌝ }
     {
         match self {
