@@ -1,0 +1,4 @@
+-- What the contracts of this crate cite.
+pub mod Sound
+pub mod Lists
+pub mod Asked
