@@ -45,7 +45,7 @@ ports-kept p (m ∷ ms) h =
     (λ (q : p m ≡ false). rw q (ports-kept p ms (a .1)))
     (cases-bool (p m))
 
-same-is : (k n : ℕ) → same ltb k n ≡ true → k ≡ n
+pub same-is : (k n : ℕ) → same ltb k n ≡ true → k ≡ n
 same-is k n h =
     let a = and-parts (not (ltb k n)) (not (ltb n k)) h in
     let b = ltb-false k n (not-true _ (a .0)) in

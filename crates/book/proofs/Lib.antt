@@ -1,3 +1,4 @@
 -- Lemmas of this crate.
 pub mod Keeping
 pub mod Seats
+pub mod Cycle

@@ -2,3 +2,4 @@
 pub mod Sound
 pub mod Lists
 pub mod Asked
+pub mod Numbers

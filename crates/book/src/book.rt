@@ -12,6 +12,7 @@ use words::Member;
 use words::Rule;
 
 mod edits;
+mod numbers;
 mod reads;
 
 // Members by number and rules by kind, number, role and subject, each valid; no number and no port stands twice, and
