@@ -2,3 +2,4 @@
 pub mod Keeping
 pub mod Seats
 pub mod Cycle
+pub mod Somes

@@ -3,3 +3,4 @@ pub mod Sound
 pub mod Lists
 pub mod Asked
 pub mod Numbers
+pub mod Matching

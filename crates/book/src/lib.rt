@@ -8,6 +8,16 @@ mod addition;
 
 pub use addition::Addition;
 
+// Whom a message is for, and who receives it.
+mod audience;
+
+pub use audience::Audience;
+pub use audience::Sender;
+
+mod matching;
+
+pub use matching::matches;
+
 // The book.
 mod book;
 
