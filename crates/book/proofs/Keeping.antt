@@ -52,6 +52,12 @@ same-is k n h =
     let c = ltb-false n k (not-true _ (a .1)) in
     omega arith
 
+pub same-self : (k n : ℕ) → k ≡ n → same ltb k n ≡ true
+same-self k n e = and-from _ _ (not-from-false _ (le-ltb k n (omega arith))) (not-from-false _ (le-ltb n k (omega arith)))
+
+pub same-other : (k n : ℕ) → (k ≡ n → ⊥) → same ltb k n ≡ false
+same-other k n d = ⊎-elim (λ (q : same ltb k n ≡ true). absurd (d (same-is k n q))) (λ (q : same ltb k n ≡ false). q) (cases-bool (same ltb k n))
+
 -- a number that is not the one taken away is still held
 pub held-without : (k n : ℕ) (ms : List Member) → (k ≡ n → ⊥) → holds k ms ≡ true → holds k (without ltb member-key n ms) ≡ true
 held-without k n [] d h = h

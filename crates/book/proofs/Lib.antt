@@ -3,3 +3,4 @@ pub mod Keeping
 pub mod Seats
 pub mod Cycle
 pub mod Somes
+pub mod Ports

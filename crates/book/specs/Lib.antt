@@ -4,3 +4,4 @@ pub mod Lists
 pub mod Asked
 pub mod Numbers
 pub mod Matching
+pub mod Seating

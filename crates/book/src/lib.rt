@@ -3,6 +3,9 @@
 // The rules of all members but one.
 mod others;
 
+// Who stays when a member takes its seat.
+mod stayers;
+
 // What became of a rule that was to be added.
 mod addition;
 
