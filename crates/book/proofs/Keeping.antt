@@ -114,16 +114,16 @@ sound-of b = record {
   owners = b .owners;
 }
 
-each-entered : (f : Rule → Bool) (u : Rule) (us : List Rule) → f u ≡ true → each f us ≡ true → each f (entered rule-less rule-key u us) ≡ true
-each-entered f u [] h e = and-from _ _ h refl
-each-entered f u (v ∷ us) h e =
-    let a = and-parts (f v) (each f us) e in
-    ⊎-elim (λ (q : rule-less (rule-key u) (rule-key v) ≡ true). rw q (and-from _ _ h e))
-    (λ (q : rule-less (rule-key u) (rule-key v) ≡ false). rw q (and-from _ _ (a .0) (each-entered f u us h (a .1))))
-    (cases-bool (rule-less (rule-key u) (rule-key v)))
+pub each-entered : {A K : Type 0} (less : K → K → Bool) (key : A → K) (f : A → Bool) (x : A) (xs : List A) → f x ≡ true → each f xs ≡ true → each f (entered less key x xs) ≡ true
+each-entered less key f x [] h e = and-from _ _ h refl
+each-entered less key f x (y ∷ xs) h e =
+    let a = and-parts (f y) (each f xs) e in
+    ⊎-elim (λ (q : less (key x) (key y) ≡ true). rw q (and-from _ _ h e))
+    (λ (q : less (key x) (key y) ≡ false). rw q (and-from _ _ (a .0) (each-entered less key f x xs h (a .1))))
+    (cases-bool (less (key x) (key y)))
 
 each-after : (f : Rule → Bool) (r : Entry) (u : Rule) (us : List Rule) → f u ≡ true → each f us ≡ true → each f (after r (entered rule-less rule-key u us) us) ≡ true
-each-after f New u us h e = each-entered f u us h e
+each-after f New u us h e = each-entered rule-less rule-key f u us h e
 each-after f Standing u us h e = e
 each-after f Full u us h e = e
 

@@ -4,3 +4,4 @@ pub mod Seats
 pub mod Cycle
 pub mod Somes
 pub mod Ports
+pub mod Seating

@@ -40,7 +40,7 @@ free-port p (m ∷ ms) h =
     let a = and-parts (other-port p m) (each (other-port p) ms) h in
     or-from _ _ (not-true _ (a .0)) (free-port p ms (a .1))
 
-port-of : (m : Member) → valid-member m ≡ true → (1 ≤ m .port) × (m .port ≤ 15)
+pub port-of : (m : Member) → valid-member m ≡ true → (1 ≤ m .port) × (m .port ≤ 15)
 port-of m v =
     let a = and-parts (within 1 255 (m .number)) _ v in
     let b = and-parts (within 1 255 (m .role)) (within 1 15 (m .port)) (a .1) in

@@ -2,6 +2,9 @@
 ghost use lib.Dec.{ltb};
 ghost use mathlib.Core.Path.{_≡_};
 ghost use Rattle.book.specs.Asked.{added, addition};
+ghost use mathlib.Core.Bool.{cond};
+ghost use Rattle.book.specs.Seating.{rules-with, with-member};
+ghost use Rattle.words.specs.Records.{valid-member};
 ghost use Rattle.book.specs.Lists.{members-of, rules-of};
 ghost use Rattle.book.specs.Sound.{holds, not-of};
 ghost use Rattle.std.specs.shelf.Lists.{kept-by};
@@ -11,9 +14,14 @@ use crate::addition::Addition;
 use crate::book::Book;
 use crate::others::Others;
 use crate::others::OthersKeep;
+use crate::stayers::OfMembers;
+use crate::stayers::OfMembersKeep;
+use crate::stayers::Stayers;
+use crate::stayers::StayersKeep;
 use table::Entry;
 use table::OctetKey;
 use table::Record;
+use words::Member;
 use words::MemberRecord;
 use words::Rule;
 use words::RuleKeyOrder;
@@ -54,5 +62,25 @@ impl Book {
             Entry::Standing => Addition::Standing,
             Entry::Full => Addition::Full,
         }
+    }
+
+    // The member takes its seat: those with its number or at its port go first, with their rules. False where it may
+    // not stand.
+    pub fn add_member(&mut self, member: Member) -> bool
+        ensures answer { λ r. ⌜ r ≡ valid-member member ⌝ }
+        ensures members { λ r. ⌜ members-of (now (self .exit)) ≡ cond r (with-member member (members-of (now (self .entry)))) (members-of (now (self .entry))) ⌝ }
+        ensures rules { λ r. ⌜ rules-of (now (self .exit)) ≡ cond r (rules-with member (members-of (now (self .entry))) (rules-of (now (self .entry)))) (rules-of (now (self .entry))) ⌝ }
+    {
+        if !member.is_valid() {
+            return false;
+        }
+        self.members.retain(&Stayers { comer: member });
+        self.rules.retain(
+            &OfMembers {
+                members: self.members.as_slice(),
+            },
+        );
+        let _ = self.members.insert(member);
+        true
     }
 }
