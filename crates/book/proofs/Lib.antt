@@ -5,3 +5,4 @@ pub mod Cycle
 pub mod Somes
 pub mod Ports
 pub mod Seating
+pub mod Recipients

@@ -5,3 +5,4 @@ pub mod Asked
 pub mod Numbers
 pub mod Matching
 pub mod Seating
+pub mod Laws

@@ -25,3 +25,9 @@ pub use matching::matches;
 mod book;
 
 pub use book::Book;
+
+// The laws of the book.
+mod laws;
+
+pub use laws::recipients_law;
+pub use laws::worked_examples;

@@ -3,11 +3,15 @@ ghost use lib.Dec.{ltb};
 ghost use mathlib.Core.List.{[]};
 ghost use mathlib.Core.Path.{_≡_};
 ghost use Rattle.book.specs.Asked.{same-member, seated, stands-so};
+ghost use Rattle.book.specs.Matching.{receives};
 ghost use Rattle.book.specs.Lists.{members-of, rules-of};
 ghost use Rattle.std.specs.Vec.{made};
 ghost use Rattle.table.specs.Ordered.{looked-up, stands};
 ghost use Rattle.words.specs.Keys.{member-key, rule-key, rule-less};
+use crate::audience::Audience;
+use crate::audience::Sender;
 use crate::book::Book;
+use crate::matching::receives;
 use std::alloc::AllocError;
 use std::alloc::Global;
 use table::OctetKey;
@@ -70,6 +74,19 @@ impl Book {
             Some(found) => same_member(&found, member),
             None => false,
         }
+    }
+
+    // Whether the member receives such a message from this sender, by the rules of the book.
+    pub fn receives(
+        &self,
+        audience: Audience,
+        sender: Sender,
+        subject: u16,
+        member: &Member,
+    ) -> bool
+        ensures { λ r. ⌜ r ≡ receives (rules-of (now (self .entry))) audience sender subject (now (member .entry)) ⌝ }
+    {
+        receives(self.rules.as_slice(), audience, sender, subject, member)
     }
 }
 
