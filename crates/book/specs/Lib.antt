@@ -6,3 +6,4 @@ pub mod Numbers
 pub mod Matching
 pub mod Seating
 pub mod Laws
+pub mod Changes

@@ -11,6 +11,7 @@ use table::Table;
 use words::Member;
 use words::Rule;
 
+mod apply;
 mod edits;
 mod numbers;
 mod reads;

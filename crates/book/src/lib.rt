@@ -11,6 +11,11 @@ mod addition;
 
 pub use addition::Addition;
 
+// What a frame of the registrar tells of a change.
+mod change;
+
+pub use change::Change;
+
 // Whom a message is for, and who receives it.
 mod audience;
 
