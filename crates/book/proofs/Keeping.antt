@@ -1,14 +1,14 @@
 -- What a book keeps when members and rules leave it. Assumes nothing.
-use Prim.Native.Nat.{ℕ, _≤_}
-use mathlib.Core.Path.{_≡_, refl, sym, ap, _∙_}
-use mathlib.Core.Bool.{Bool, true, false, cond, not, _&&_, _||_}
+use Prim.Native.Nat.{ℕ}
+use mathlib.Core.Path.{_≡_, refl, sym, _∙_}
+use mathlib.Core.Bool.{Bool, true, false, not}
 use mathlib.Core.Logic.{_⊎_, ⊎-elim}
 use mathlib.Core.List.{List, [], _∷_}
 use native.Mathlib.Omega.{arith}
-use lib.Dec.{eqb, ltb}
+use lib.Dec.{ltb}
 use Rattle.std.specs.shelf.Lists.{kept-by}
-use Rattle.std.proofs.shelf.Tests.{cases-bool, and-parts, and-from, or-cases, or-left, or-right, not-true, not-from-false, ltb-false, le-ltb, lt-ltb, eqb-false, cases-lt}
-use Rattle.table.specs.Ordered.{ascending, entered, same, stands, without}
+use Rattle.std.proofs.shelf.Tests.{cases-bool, and-parts, and-from, or-cases, or-right, not-true, not-from-false, ltb-false, le-ltb, eqb-false}
+use Rattle.table.specs.Ordered.{ascending, entered, same, without}
 use Rattle.table.specs.Entries.{after}
 use Rattle.table.specs.declared.entry.Entry.{Entry}
 use Rattle.table.specs.declared.entry.Entry.the-variants.{New, Standing, Full}

@@ -1,14 +1,14 @@
 -- Members at different ports are at most as many as there are ports. Assumes nothing.
 use Prim.Native.Nat.{ℕ, zero, suc, _+_, _<_, _≤_}
-use mathlib.Core.Path.{_≡_, refl, sym, _∙_}
-use mathlib.Core.Bool.{Bool, true, false, cond, _&&_, _||_, not}
+use mathlib.Core.Path.{_≡_, refl}
+use mathlib.Core.Bool.{Bool, true, false, _||_}
 use mathlib.Core.Logic.{⊎-elim}
 use mathlib.Core.List.{List, [], _∷_}
 use native.Mathlib.Omega.{arith}
 use lib.Dec.{eqb, leb}
 use lib.ListN.{length}
-use Rattle.std.proofs.shelf.Tests.{cases-bool, cases-eq, and-parts, eq-eqb, ne-eqb, eqb-false, leb-true, not-true, or-from}
-use Rattle.words.specs.Ranges.{within, applicant-valid}
+use Rattle.std.proofs.shelf.Tests.{cases-eq, and-parts, eq-eqb, ne-eqb, leb-true, not-true, or-from}
+use Rattle.words.specs.Ranges.{within}
 use Rattle.words.specs.Records.{valid-member}
 use Rattle.words.specs.declared.member.Member.{Member}
 use Rattle.words.specs.Books.{count-below}

@@ -1,20 +1,18 @@
 -- Who receives a message, in the subject's words. Assumes nothing.
 use Prim.Native.Nat.{ℕ}
-use mathlib.Core.Path.{_≡_, refl, sym, subst}
-use mathlib.Core.Bool.{Bool, true, false, _&&_, _||_}
+use mathlib.Core.Path.{_≡_, refl}
+use mathlib.Core.Bool.{Bool, true, false}
 use mathlib.Core.Logic.{_⊎_, inl, inr, ⊎-elim}
 use mathlib.Core.List.{List, [], _∷_}
 use native.Mathlib.Omega.{arith}
 use lib.Dec.{ltb}
 use Rattle.std.specs.shelf.Lists.{kept-by}
 use Rattle.std.proofs.shelf.Tests.{cases-bool, and-parts, and-from, or-cases, or-left, or-right, le-ltb, ltb-true, lt-ltb, ltb-false}
-use Rattle.table.specs.Ordered.{Order, ascending}
+use Rattle.table.specs.Ordered.{Order}
 use Rattle.table.proofs.Places.{ascending-kept}
-use Rattle.words.specs.declared.member.Member.{Member}
-use Rattle.words.specs.declared.rule.Rule.{Rule}
 use Rattle.words.specs.Keys.{member-key}
-use Rattle.book.specs.Matching.{asks, in-audience, receives, recipients, some}
-use Rattle.book.specs.Laws.{In, Recipients, Recipients-law}
+use Rattle.book.specs.Matching.{asks, in-audience, receives, some}
+use Rattle.book.specs.Laws.{In, Recipients-law}
 
 some-in : {A : Type 0} (p : A → Bool) (xs : List A) → some p xs ≡ true → (x : A) × In x xs × (p x ≡ true)
 some-in p [] h = let z : _≡_ {A = ℕ} 0 1 = cc in absurd (omega arith)

@@ -1,7 +1,7 @@
 -- A member takes its seat, and the book stays a book. Assumes nothing.
-use Prim.Native.Nat.{ℕ, _<_, _≤_}
+use Prim.Native.Nat.{ℕ}
 use mathlib.Core.Path.{_≡_, refl, sym, _∙_}
-use mathlib.Core.Bool.{Bool, true, false, cond, not, _&&_, _||_}
+use mathlib.Core.Bool.{Bool, true, false, not}
 use mathlib.Core.Logic.{⊎-elim}
 use mathlib.Core.List.{List, [], _∷_}
 use lib.Dec.{eqb, ltb}
@@ -9,7 +9,7 @@ use lib.ListN.{length}
 use Rattle.std.specs.shelf.Lists.{kept-by}
 use Rattle.std.proofs.shelf.Tests.{cases-bool, and-parts, and-from, or-cases, or-from, or-left, or-right, eqb-false, ne-eqb, not-true, not-from-false, lt-ltb}
 use Rattle.table.specs.Entries.{after, answer}
-use Rattle.table.specs.Ordered.{ascending, entered, same, stands}
+use Rattle.table.specs.Ordered.{ascending, entered, same}
 use Rattle.table.specs.declared.entry.Entry.{Entry}
 use Rattle.table.specs.declared.entry.Entry.the-variants.{New}
 use Rattle.words.specs.declared.member.Member.{Member}

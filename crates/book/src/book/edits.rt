@@ -83,4 +83,13 @@ impl Book {
         let _ = self.members.insert(member);
         true
     }
+
+    // The members and rules of another book take the place of its own.
+    pub fn copy_from(&mut self, other: &Book)
+        ensures members { λ _. ⌜ members-of (now (self .exit)) ≡ members-of (now (other .entry)) ⌝ }
+        ensures rules { λ _. ⌜ rules-of (now (self .exit)) ≡ rules-of (now (other .entry)) ⌝ }
+    {
+        self.members.copy_from(&other.members);
+        self.rules.copy_from(&other.rules);
+    }
 }

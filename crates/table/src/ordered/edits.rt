@@ -58,4 +58,14 @@ impl<R: Record + Drop, const LIMIT: usize> Table<R, LIMIT> {
         let passing = compact(self.records.as_mut_slice(), which);
         self.records.truncate(passing);
     }
+
+    // The records of another table take the place of its own.
+    pub fn copy_from(&mut self, other: &Table<R, LIMIT>)
+    where
+        R: Copy,
+        ensures { λ _. ⌜ items (now (self .exit)) ≡ items (now (other .entry)) ⌝ }
+    {
+        self.records.clear();
+        let _ = self.records.extend_from_slice(other.records.as_slice());
+    }
 }
