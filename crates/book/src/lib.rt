@@ -1,4 +1,5 @@
 // The book of members and rules.
+#![tactic(auto)]
 
 // The rules of all members but one.
 mod others;

@@ -1,4 +1,5 @@
 // Worked examples, run: frames written by hand from the format, good and bad; books.
+#![tactic(auto)]
 
 // Octets that are no frame.
 #[cfg(test)]

@@ -1,4 +1,5 @@
 // Captured frames in plain words: a line of hex to a line that says what the octets are.
+#![tactic(auto)]
 
 // Octets as hexadecimal text.
 mod hex;

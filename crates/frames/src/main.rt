@@ -1,4 +1,6 @@
 // Reads a dump of frames in hex from standard input and prints what each line is.
+#![tactic(auto)]
+
 use explain::{answer_line, line_end};
 use std::io::Read;
 

@@ -1,4 +1,5 @@
 // A line between ports: what it means, and what is proved of every line.
+#![tactic(auto)]
 
 // The line.
 mod line;

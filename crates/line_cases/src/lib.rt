@@ -1,4 +1,5 @@
 // Both lines, run: long random runs beside a plain list of frames, and ports filled to the brim.
+#![tactic(auto)]
 
 // Numbers that look random, the same in every run.
 #[cfg(test)]

@@ -1,4 +1,5 @@
 // Two lines: one with 4 places a port, and one with 4,096 octets a port.
+#![tactic(auto)]
 
 // How much waits at a port.
 mod sizes;

@@ -1,4 +1,5 @@
 // Octet names as keys of the ordered table: 1 to 32 octets in octet order, shorter first where one begins the other.
+#![tactic(auto)]
 
 // A name.
 mod name;

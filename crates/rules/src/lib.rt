@@ -1,5 +1,6 @@
 // The rules of the message space: what every call does and answers, as definitions, and what holds over any run of
 // calls. The code here is the answers; the rest stands in specs/ and is proved in proofs/.
+#![tactic(auto)]
 
 // Why a call is refused.
 mod refusal;

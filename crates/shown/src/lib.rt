@@ -1,5 +1,7 @@
 // A run of thirty calls, which shows that what is promised of every run is promised of something. There is no code here:
 // the run stands in specs/, and what it shows is proved in proofs/.
+#![tactic(auto)]
+
 ghost use Rattle.shown.specs.Shown.{AllAnswered, AllReached, CopiesOfEachFate, RuleOffAndOn, ViewBehind, ViewFarBehind, ViewLeftBehind, ViewPutRight, ViewUndisturbed};
 
 use rules::promises;

@@ -1,7 +1,8 @@
 -- The order of lists of numbers is a strict total order, and a key that is told by its list takes it over.
-use Rattle.std.proofs.Common.{◌≡◌, ℕ, ◌<◌, ◌≤◌, true, false, ◌&&◌, eqb, ltb, ◌⊎◌, List, [], ◌∷◌, Ordering, Less, Equal, Greater, sym, refl, ◌∙◌, subst, inl, inr, ⊎_elim, arith}
-use Rattle.std.specs.Cmp.Lexicographic.{Lex}
-use Rattle.std.specs.Ordering.{MatchOrdering}
+use Rattle.std.proofs.Common.{◌≡◌, ℕ, ◌<◌, ◌≤◌, true, false, ◌&&◌, eqb, ltb, ◌⊎◌, List, [], ◌∷◌, Ordering, Less, Equal, Greater, sym, refl, ◌∙◌, inl, inr, ⊎_elim, arith}
+use Rattle.std.specs.Cmp.{ranks}
+use Rattle.std.specs.Cmp.Lexicographic.{slice_cmp}
+use Rattle.std.specs.Ordering.{MatchOrdering, nat_cmp, ordering_then}
 use Rattle.std.proofs.lemmas.Bool.{true≢false, false≢true, both_ways, ltb-true, ltb-false, eqb-true, lt-ltb, le-ltb, eq-eqb, or_cases, or_parts, or_left, or_right, and_parts, and_from, and_cases}
 use Rattle.table.specs.Ordered.{Order}
 use Rattle.table.specs.Digits.{lex}
@@ -67,14 +68,17 @@ deeper x y xs ys Less e h = lex_next x y xs ys e h
 deeper x y xs ys Equal e h = cc
 deeper x y xs ys Greater e h = lex_next y x ys xs (sym e) h
 
+ranked_by : (x y : ℕ) (xs ys : List ℕ) (k o : Ordering) → MatchOrdering k (x < y) (x ≡ y) (y < x) → MatchOrdering o (lex xs ys ≡ true) (xs ≡ ys) (lex ys xs ≡ true) → MatchOrdering (ordering_then k o) (lex (x ∷ xs) (y ∷ ys) ≡ true) (x ∷ xs ≡ y ∷ ys) (lex (y ∷ ys) (x ∷ xs) ≡ true)
+ranked_by x y xs ys Less o p h = lex-first x y xs ys p
+ranked_by x y xs ys Equal o p h = deeper x y xs ys o p h
+ranked_by x y xs ys Greater o p h = lex-first y x ys xs p
+
 -- What `cmp` answers on two slices or arrays of unsigned numbers.
-pub lex_ranked : (xs ys : List ℕ) (o : Ordering) → Lex (λ a b k. MatchOrdering k (a < b) (a ≡ b) (b < a)) xs ys o → MatchOrdering o (lex xs ys ≡ true) (xs ≡ ys) (lex ys xs ≡ true)
-lex_ranked [] [] o h = rw h refl
-lex_ranked [] (y ∷ ys) o h = rw h refl
-lex_ranked (x ∷ xs) [] o h = rw h refl
-lex_ranked (x ∷ xs) (y ∷ ys) o (Less, p, q) = rw q (lex-first x y xs ys p)
-lex_ranked (x ∷ xs) (y ∷ ys) o (Greater, p, q) = rw q (lex-first y x ys xs p)
-lex_ranked (x ∷ xs) (y ∷ ys) o (Equal, p, q) = deeper x y xs ys o p (lex_ranked xs ys o q)
+pub lex_ranked : (xs ys : List ℕ) → MatchOrdering (slice_cmp nat_cmp xs ys) (lex xs ys ≡ true) (xs ≡ ys) (lex ys xs ≡ true)
+lex_ranked [] [] = refl
+lex_ranked [] (y ∷ ys) = refl
+lex_ranked (x ∷ xs) [] = refl
+lex_ranked (x ∷ xs) (y ∷ ys) = ranked_by x y xs ys (nat_cmp x y) (slice_cmp nat_cmp xs ys) (ranks x y) (lex_ranked xs ys)
 
 whole : {K : Type 0} (digits : K → List ℕ) (apart : (x y : K) → digits x ≡ digits y → x ≡ y) (x y : K) (o : Ordering) → MatchOrdering o (lex (digits x) (digits y) ≡ true) (digits x ≡ digits y) (lex (digits y) (digits x) ≡ true) → MatchOrdering o (lex (digits x) (digits y) ≡ true) (x ≡ y) (lex (digits y) (digits x) ≡ true)
 whole digits apart x y Less h = h
@@ -82,6 +86,6 @@ whole digits apart x y Equal h = apart x y h
 whole digits apart x y Greater h = h
 
 -- What `compare` owes, from what `cmp` answers on the digits xs and ys that the code holds.
-pub digits_ranked : {K : Type 0} (digits : K → List ℕ) (apart : (x y : K) → digits x ≡ digits y → x ≡ y) (x y : K) (xs ys : List ℕ) (o : Ordering) → xs ≡ digits x → ys ≡ digits y → Lex (λ a b k. MatchOrdering k (a < b) (a ≡ b) (b < a)) xs ys o → MatchOrdering o (lex (digits x) (digits y) ≡ true) (x ≡ y) (lex (digits y) (digits x) ≡ true)
+pub digits_ranked : {K : Type 0} (digits : K → List ℕ) (apart : (x y : K) → digits x ≡ digits y → x ≡ y) (x y : K) (xs ys : List ℕ) (o : Ordering) → xs ≡ digits x → ys ≡ digits y → o ≡ slice_cmp nat_cmp xs ys → MatchOrdering o (lex (digits x) (digits y) ≡ true) (x ≡ y) (lex (digits y) (digits x) ≡ true)
 digits_ranked digits apart x y xs ys o p q h =
-    whole digits apart x y o (lex_ranked (digits x) (digits y) o (subst (λ zs. Lex (λ a b k. MatchOrdering k (a < b) (a ≡ b) (b < a)) (digits x) zs o) q (subst (λ zs. Lex (λ a b k. MatchOrdering k (a < b) (a ≡ b) (b < a)) zs ys o) p h)))
+    whole digits apart x y o (rw (h, p, q) (lex_ranked (digits x) (digits y)))

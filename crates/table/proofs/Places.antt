@@ -1,5 +1,5 @@
 -- What the order law gives of lists in ascending order.
-use Rattle.std.proofs.Common.{◌≡◌, ℕ, zero, suc, ◌<◌, ◌≤◌, Bool, true, false, ◌⊎◌, List, [], ◌∷◌, length, get_or, Some, None, filter, sym, refl, ap, ◌∙◌, subst, ⊎_elim, arith}
+use Rattle.std.proofs.Common.{◌≡◌, ℕ, zero, suc, ◌<◌, ◌≤◌, Bool, true, false, List, [], ◌∷◌, length, get_or, Some, None, filter, sym, refl, ap, ◌∙◌, subst, ⊎_elim, arith}
 use Rattle.std.specs.List.{HoldsAt, AllWithin, insert, remove}
 use Rattle.std.proofs.lemmas.Bool.{both_ways, and_parts, and_from, or_parts, not_from_false, cases_Bool, cond-true, cond-false}
 use Rattle.table.specs.Ordered.{Order, same, above, ascending, stands, looked_up, entered, without}

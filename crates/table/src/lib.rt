@@ -1,4 +1,5 @@
 // One ordered table, for every record whose keys have a total order.
+#![tactic(auto)]
 
 // Keys and their order.
 mod key;

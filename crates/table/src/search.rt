@@ -7,7 +7,7 @@ use std::cmp::Ordering;
 
 // The place of the record with this key, or else the place before which it belongs.
 pub fn find<R: Record>(records: &[R], key: &R::Key) -> Result<usize, usize>
-    ensures { Found R.Key.Key.less keyed records.now key.now result }
+    ensures { Found R.Key.Key.less R.keyed records.now key.now result }
 {
     for (i, x) in records.iter().enumerate() {
         match x.key().compare(key) {

@@ -1,5 +1,6 @@
 // Frames: what goes over the line, read from octets and written to them.
 // `read` gives the frame in a run of octets, or the first fault; `write` puts a frame at the start of a buffer.
+#![tactic(auto)]
 
 // Faults of reading and refusals to write, with number, place and layer.
 mod fault;

@@ -1,4 +1,5 @@
 // Words of 32 bits, the records that they carry, and the book as a run of words: the lowest layer of the wire format.
+#![tactic(auto)]
 
 // The fault of a word.
 mod fault;

@@ -36,9 +36,9 @@ impl<R: Drop, const LIMIT: usize> Table<R, LIMIT> {
 impl<R: Record + Drop, const LIMIT: usize> Table<R, LIMIT> {
     // Enters the record in its place, unless its key stands already or the table is full.
     pub fn insert(&mut self, x: R) -> Entry
-        ensures answer { ascending R.Key.Key.less keyed (items self.old) ≡ true → result ≡ answer R.Key.Key.less keyed LIMIT x (items self.old) }
-        ensures items { items self.new ≡ after result (entered R.Key.Key.less keyed x (items self.old)) (items self.old) }
-        ensures rising { ascending R.Key.Key.less keyed (items self.old) ≡ true → ascending R.Key.Key.less keyed (items self.new) ≡ true }
+        ensures answer { ascending R.Key.Key.less R.keyed (items self.old) ≡ true → result ≡ answer R.Key.Key.less R.keyed LIMIT x (items self.old) }
+        ensures items { items self.new ≡ after result (entered R.Key.Key.less R.keyed x (items self.old)) (items self.old) }
+        ensures rising { ascending R.Key.Key.less R.keyed (items self.old) ≡ true → ascending R.Key.Key.less R.keyed (items self.new) ≡ true }
     {
         let key = x.key();
         match find(self.records.as_slice(), &key) {
@@ -55,9 +55,9 @@ impl<R: Record + Drop, const LIMIT: usize> Table<R, LIMIT> {
 
     // Takes away the record with this key, and answers whether there was one.
     pub fn remove(&mut self, key: &R::Key) -> bool
-        ensures answer { ascending R.Key.Key.less keyed (items self.old) ≡ true → result ≡ stands R.Key.Key.less keyed key.now (items self.old) }
-        ensures items { ascending R.Key.Key.less keyed (items self.old) ≡ true → items self.new ≡ without R.Key.Key.less keyed key.now (items self.old) }
-        ensures rising { ascending R.Key.Key.less keyed (items self.old) ≡ true → ascending R.Key.Key.less keyed (items self.new) ≡ true }
+        ensures answer { ascending R.Key.Key.less R.keyed (items self.old) ≡ true → result ≡ stands R.Key.Key.less R.keyed key.now (items self.old) }
+        ensures items { ascending R.Key.Key.less R.keyed (items self.old) ≡ true → items self.new ≡ without R.Key.Key.less R.keyed key.now (items self.old) }
+        ensures rising { ascending R.Key.Key.less R.keyed (items self.old) ≡ true → ascending R.Key.Key.less R.keyed (items self.new) ≡ true }
     {
         match find(self.records.as_slice(), key) {
             Ok(at) => {
@@ -73,7 +73,7 @@ impl<R: Record + Drop, const LIMIT: usize> Table<R, LIMIT> {
     where
         R: Copy,
         ensures items { items self.new ≡ filter (P.Keep.keeps which.now) (items self.old) }
-        ensures rising { ascending R.Key.Key.less keyed (items self.old) ≡ true → ascending R.Key.Key.less keyed (items self.new) ≡ true }
+        ensures rising { ascending R.Key.Key.less R.keyed (items self.old) ≡ true → ascending R.Key.Key.less R.keyed (items self.new) ≡ true }
     {
         let passing = compact(self.records.as_mut_slice(), which);
         self.records.truncate(passing);

@@ -27,7 +27,7 @@ impl<R, const LIMIT: usize> Table<R, LIMIT> {
 impl<R: Record, const LIMIT: usize> Table<R, LIMIT> {
     // Whether a record with this key stands.
     pub fn contains(&self, key: &R::Key) -> bool
-        ensures { ascending R.Key.Key.less keyed (items self.now) ≡ true → result ≡ stands R.Key.Key.less keyed key.now (items self.now) }
+        ensures { ascending R.Key.Key.less R.keyed (items self.now) ≡ true → result ≡ stands R.Key.Key.less R.keyed key.now (items self.now) }
     {
         find(self.records.as_slice(), key).is_ok()
     }
@@ -36,7 +36,7 @@ impl<R: Record, const LIMIT: usize> Table<R, LIMIT> {
     pub fn get(&self, key: &R::Key) -> Option<R>
     where
         R: Copy,
-        ensures { ascending R.Key.Key.less keyed (items self.now) ≡ true → result ≡ looked_up R.Key.Key.less keyed key.now (items self.now) }
+        ensures { ascending R.Key.Key.less R.keyed (items self.now) ≡ true → result ≡ looked_up R.Key.Key.less R.keyed key.now (items self.now) }
     {
         let records = self.records.as_slice();
         match find(records, key) {

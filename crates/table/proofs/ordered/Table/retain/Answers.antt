@@ -18,10 +18,10 @@ returns g c =
     let xs = items c.args.self.now in
     let ys = c.compact-passing.new.records in
     let n = vec_len c.args.self.now.records in
-    let long : length ys ≡ n = c.compact-passing.auto.records ∙ c.as-mut-slice.ensures.len in
-    let was : take c.compact-passing.result ys ≡ filter p xs = c.compact-passing.ensures ∙ ap (filter p) c.as-mut-slice.ensures.value in
+    let long : length ys ≡ n = c.compact-passing.auto.records ∙ c.as_mut_slice.ensures.len in
+    let was : take c.compact-passing.result ys ≡ filter p xs = c.compact-passing.ensures ∙ ap (filter p) c.as_mut_slice.ensures.value in
     let now : vec_items c.truncate.new.self ≡ filter p xs = framed n c.compact-passing.result _ ys _ (filter p xs) (vec_items c.truncate.new.self) long was c.truncate.ensures.items (omega arith) in
     record {
       items = now;
-      rising = λ r. subst (λ zs. ascending g.Key-as-Key.less g.R.Record.keyed zs ≡ true) (sym now) (ascending_kept g.met.R.Key.Key.order g.R.Record.keyed p xs r);
+      rising = λ r. subst (λ zs. ascending g.R.Key.Key.less g.R.Record.keyed zs ≡ true) (sym now) (ascending_kept g.met.R.Key.Key.order g.R.Record.keyed p xs r);
     }
