@@ -1,5 +1,5 @@
 -- In a book no word is wrong. Assumes nothing.
-use Rattle.std.proofs.Common.{◌≡◌, ℕ, zero, suc, ◌-◌, ◌%◌, ◌<◌, Bool, true, false, eqb, ◌⊎◌, List, length, None, refl, ⊎_elim, arith}
+use Rattle.std.proofs.Common.{◌≡◌, ℕ, zero, suc, ◌-◌, ◌%◌, ◌<◌, Bool, true, false, eqb, List, length, None, refl, ⊎_elim, arith}
 use Rattle.std.proofs.lemmas.Bool.{cases_Bool, cases_eq, and_from, and_left, or_from, or_right, eq-eqb, ne_eqb, lt-ltb, not_from_false}
 use Rattle.words.specs.Words.{number_of, tail_of}
 use Rattle.words.specs.Records.{is_member, is_rule}

@@ -40,8 +40,6 @@ pub use rule_key::RuleKey;
 
 mod keys;
 
-use crate::keys::Key;
-
 // Why a request was rejected.
 mod reason;
 

@@ -12,7 +12,7 @@ loop-k-preserved c = (
   omega (arith, c.loop-k.invariant.0),
   c.put.ensures
       ∙ words_next c.args.buffer.now c.loop-k.buffer c.args.words.now _ c.args.at c.loop-k.k c.loop-k.place
-      (omega arith) c.loop-k-test.true c.to-be-bytes.ensures c.loop-k.invariant.0 c.loop-k.invariant.1,
+      (omega arith) c.loop-k-test.true c.to_be_bytes.ensures c.loop-k.invariant.0 c.loop-k.invariant.1,
 )
 
 pub returns : goal.returns

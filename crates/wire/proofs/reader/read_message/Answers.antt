@@ -5,7 +5,7 @@ use Rattle.wire.proofs.reader.read_message.Goals as goal
 
 pub returns-in-Some : goal.returns-in-Some
 returns-in-Some c = record {
-  reads = c.read-words.ensures.reads
-      ∙ message_some c.args.octets.now c.in-Some.kind _ _ _ c.if-octets-lt-CONTENT.false c.word-at.ensures c.word-at-2.ensures c.word-at-3.ensures (sym c.in-Some.ensures);
-  place = c.read-words.ensures.place;
+  reads = c.read_words.ensures.reads
+      ∙ message_some c.args.octets.now c.in-Some.kind _ _ _ c.if-octets-lt-CONTENT.false c.word_at.ensures c.word_at-2.ensures c.word_at-3.ensures (sym c.in-Some.ensures);
+  place = c.read_words.ensures.place;
 }

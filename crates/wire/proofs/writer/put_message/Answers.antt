@@ -12,7 +12,7 @@ returns c =
     let ws = receiver_word h ∷ sender_word h (length xs) ∷ context_word h ∷ [] in
     record {
       octets = c.put.ensures
-          ∙ after_next c.args.buffer.now c.put-words.new.buffer (words_octets ws) xs c.args.at 12 (omega arith) refl
-          (c.put-words.ensures ∙ simp c.to-words.ensures);
+          ∙ after_next c.args.buffer.now c.put_words.new.buffer (words_octets ws) xs c.args.at 12 (omega arith) refl
+          (c.put_words.ensures ∙ simp c.to_words.ensures);
       count = refl;
     }

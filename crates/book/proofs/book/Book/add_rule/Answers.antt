@@ -3,8 +3,8 @@ use Rattle.std.proofs.Common.{sym}
 use Rattle.book.proofs.Keeping.{rule_put, sound_of}
 use Rattle.book.proofs.book.Book.add_rule.Goals as goal
 
-pub invariant-of-self : goal.invariant-of-self
-invariant-of-self c =
+pub invariant_of-self : goal.invariant_of-self
+invariant_of-self c =
     let b = c.args.self.now in
-    let s = rule_put _ _ _ c.insert.result c.args.rule (sound_of b) (sym c.if-not-is-valid.ensures) (sym (c.if-not-contains.ensures b.numbers)) (c.insert.ensures.answer b.rising) c.insert.ensures.items in
+    let s = rule_put _ _ _ c.insert.result c.args.rule (sound_of b) (sym c.if-not-is_valid.ensures) (sym (c.if-not-contains.ensures b.numbers)) (c.insert.ensures.answer b.rising) c.insert.ensures.items in
     (s.numbers, (s.rising, (s.members_valid, (s.rules_valid, (s.ports, (s.owners, tt))))))

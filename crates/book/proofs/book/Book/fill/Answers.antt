@@ -6,12 +6,12 @@ use Rattle.book.proofs.Reading.{read_sound}
 use Rattle.book.proofs.book.Book.fill.Goals as goal
 
 pub fill-requires : goal.fill-requires
-fill-requires c = (omega arith, (sound_is_book c.args.run.now.octets.now (sym c.if-not-is-sound.ensures.sound)).members)
+fill-requires c = (omega arith, (sound_is_book c.args.run.now.octets.now (sym c.if-not-is_sound.ensures.sound)).members)
 
 pub fill-requires-2 : goal.fill-requires-2
-fill-requires-2 c = (omega arith, (sound_is_book c.args.run.now.octets.now (sym c.if-not-is-sound.ensures.sound)).rules)
+fill-requires-2 c = (omega arith, (sound_is_book c.args.run.now.octets.now (sym c.if-not-is_sound.ensures.sound)).rules)
 
-pub invariant-of-self : goal.invariant-of-self
-invariant-of-self c =
-    let s = sound_as _ _ _ _ c.fill.ensures c.fill-2.ensures (read_sound c.args.run.now.octets.now (sym c.if-not-is-sound.ensures.sound)) in
+pub invariant_of-self : goal.invariant_of-self
+invariant_of-self c =
+    let s = sound_as _ _ _ _ c.fill.ensures c.fill-2.ensures (read_sound c.args.run.now.octets.now (sym c.if-not-is_sound.ensures.sound)) in
     (s.numbers, (s.rising, (s.members_valid, (s.rules_valid, (s.ports, (s.owners, tt))))))

@@ -2,8 +2,8 @@
 use Rattle.book.proofs.Keeping.{member_gone, sound_as, sound_of}
 use Rattle.book.proofs.book.Book.remove_member.Goals as goal
 
-pub invariant-of-self : goal.invariant-of-self
-invariant-of-self c =
+pub invariant_of-self : goal.invariant_of-self
+invariant_of-self c =
     let b = c.args.self.now in
     let s = sound_as _ _ _ _ (c.remove-was.ensures.items b.numbers) c.retain.ensures.items (member_gone _ _ c.args.number (sound_of b)) in
     (s.numbers, (s.rising, (s.members_valid, (s.rules_valid, (s.ports, (s.owners, tt))))))

@@ -3,8 +3,8 @@ use Rattle.std.proofs.Common.{refl}
 use Rattle.book.proofs.Keeping.{rules_gone, sound_as, sound_of}
 use Rattle.book.proofs.book.Book.remove_rule.Goals as goal
 
-pub invariant-of-self : goal.invariant-of-self
-invariant-of-self c =
+pub invariant_of-self : goal.invariant_of-self
+invariant_of-self c =
     let b = c.args.self.now in
     let s = sound_as _ _ _ _ refl (c.remove.ensures.items b.rising) (rules_gone _ _ _ (sound_of b)) in
     (s.numbers, (s.rising, (s.members_valid, (s.rules_valid, (s.ports, (s.owners, tt))))))

@@ -9,7 +9,7 @@ pub loop-k-preserved : goal.loop-k-preserved
 loop-k-preserved c =
     let ms = c.args.members.now in
     let us = c.args.rules.now in
-    c.put-word.ensures ∙ words_more c.args.buffer.now c.loop-k.buffer (book_words ms us) c.loop-k.k _ _ (omega (arith, length_words ms us)) (omega arith) c.word-at.ensures c.loop-k.invariant
+    c.put_word.ensures ∙ words_more c.args.buffer.now c.loop-k.buffer (book_words ms us) c.loop-k.k _ _ (omega (arith, length_words ms us)) (omega arith) c.word_at.ensures c.loop-k.invariant
 
 pub returns : goal.returns
 returns c =

@@ -1,4 +1,4 @@
-use Rattle.std.proofs.Common.{◌≡◌, ℕ, ◌+◌, ◌-◌, ◌≤◌, List, ◌++◌, length, take, drop, replicate, ap, ◌∙◌, arith, length-append, length-drop}
+use Rattle.std.proofs.Common.{◌≡◌, ℕ, ◌-◌, ◌≤◌, List, ◌++◌, length, take, drop, replicate, ap, ◌∙◌, arith, length-append, length-drop}
 use native.Mathlib.Nat.{sub-zero}
 use lib.ListN.{length-replicate}
 use lib.Seq.{take-append_seam, drop-append_seam}
@@ -14,12 +14,12 @@ back ts text e = rw e (drop-append_seam text _ ∙ drop-replicate (length text -
 whole : (ts text : List ℕ) → ts ≡ text → length text ≤ 32 → length (ts ++ drop (length text - 0) (replicate 32 0)) ≡ 32
 whole ts text e h = rw e (simp (length-append, length-drop, length-replicate) (omega arith))
 
-pub invariant-of-result : goal.invariant-of-result
-invariant-of-result c =
-    let ts = c.copy-from-slice.new.self in
+pub invariant_of-result : goal.invariant_of-result
+invariant_of-result c =
+    let ts = c.copy_from_slice.new.self in
     let text = c.args.text.now in
-    let e = c.copy-from-slice.ensures.after in
-    (omega arith, (omega arith, (whole ts text e (omega arith), (back ts text e, tt))))
+    let e = c.copy_from_slice.ensures.after in
+    record { some = omega arith; fits = omega arith; long = whole ts text e (omega arith); blank = back ts text e }
 
 pub returns : goal.returns
-returns c = front c.copy-from-slice.new.self c.args.text.now c.copy-from-slice.ensures.after
+returns c = front c.copy_from_slice.new.self c.args.text.now c.copy_from_slice.ensures.after

@@ -8,8 +8,8 @@ pub returns : goal.returns
 returns c =
     let xs = c.args.octets.now in
     record {
-      reads = header-some xs c.in-Some.kind c.word-at-2.result (octet xs 13 * 4294967296 + c.word-at.result)
-          c.if-octets-lt-HEADER-LEN.false c.if-octets-ge-NO-VERSION-NO-CHECKSUM.false (sym c.in-Some.ensures) (sym c.in-ok-check-fields.ensures.checks)
-          c.word-at-2.ensures (ap (λ w. octet xs 13 * 4294967296 + w) c.word-at.ensures);
-      sized = (c.in-ok-check-fields.ensures.sized, c.if-octets-lt-HEADER-LEN.false);
+      reads = header-some xs c.in-Some.kind c.word_at-2.result (octet xs 13 * 4294967296 + c.word_at.result)
+          c.if-octets-lt-HEADER-LEN.false c.if-octets-ge-NO-VERSION-NO-CHECKSUM.false (sym c.in-Some.ensures) (sym c.in_ok-check_fields.ensures.checks)
+          c.word_at-2.ensures (ap (λ w. octet xs 13 * 4294967296 + w) c.word_at.ensures);
+      sized = (c.in_ok-check_fields.ensures.sized, c.if-octets-lt-HEADER-LEN.false);
     }

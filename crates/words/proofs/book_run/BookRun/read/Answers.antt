@@ -2,8 +2,8 @@
 use Rattle.std.proofs.Common.{length, ap, arith, length-drop}
 use Rattle.words.proofs.book_run.BookRun.read.Goals as goal
 
-pub overflow-mul-result : goal.overflow-mul-result
-overflow-mul-result c = omega (arith, c.in-Some.ensures.within)
+pub overflow_mul-result : goal.overflow_mul-result
+overflow_mul-result c = omega (arith, c.in-Some.ensures.within)
 
-pub overflow-add-result : goal.overflow-add-result
-overflow-add-result c = omega (arith, c.in-Some.ensures.within, ap length c.rest-octets.ensures, length-drop c.args.at c.args.frame.now)
+pub overflow_add-result : goal.overflow_add-result
+overflow_add-result c = omega (arith, c.in-Some.ensures.within, ap length c.rest-octets.ensures, length-drop c.args.at c.args.frame.now)

@@ -12,4 +12,4 @@ returns-then-not-fits c =
 
 pub loop-k-preserved : goal.loop-k-preserved
 loop-k-preserved c =
-    turn c.args.book.now c.loop-k.k _ _ _ _ _ c.loop-k.invariant (sym c.if-not-fits.ensures) c.word-at.ensures c.with-tally.ensures.members c.with-tally.ensures.rules
+    turn c.args.book.now c.loop-k.k _ _ _ _ _ c.loop-k.invariant (sym c.if-not-fits.ensures) c.word_at.ensures c.with-tally.ensures.members c.with-tally.ensures.rules

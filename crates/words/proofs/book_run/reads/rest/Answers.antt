@@ -6,4 +6,4 @@ use Rattle.words.proofs.book_run.reads.rest.Goals as goal
 pub returns-else-at-octets : goal.returns-else-at-octets
 returns-else-at-octets c =
     let xs = c.args.octets.now in
-    c.split-at-else-at-octets.ensures.back ∙ (drop_all (length xs) xs (omega arith) ∙ sym (drop_all c.args.at xs (omega arith)))
+    c.split_at-else-at-octets.ensures.back ∙ (drop_all (length xs) xs (omega arith) ∙ sym (drop_all c.args.at xs (omega arith)))

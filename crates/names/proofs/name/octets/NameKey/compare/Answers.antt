@@ -4,4 +4,4 @@ use Rattle.names.specs.Apart.{apart}
 use Rattle.names.proofs.name.octets.NameKey.compare.Goals as goal
 
 pub returns : goal.returns
-returns c = digits_ranked octets apart c.args.self.now c.args.other.now _ _ _ c.as-octets.ensures c.as-octets-2.ensures c.cmp.ensures
+returns c = digits_ranked octets apart c.args.self.now c.args.other.now _ _ _ c.as_octets.ensures c.as_octets-2.ensures c.cmp.ensures
