@@ -13,7 +13,6 @@ use crate::book::Book;
 use crate::others::Others;
 use crate::stayers::{OfMembers, Stayers};
 use table::{Entry, Record};
-use words::keys::Key;
 use words::{Member, Rule};
 
 impl Book {

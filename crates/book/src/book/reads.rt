@@ -11,7 +11,6 @@ use crate::book::Book;
 use crate::matching::receives;
 use std::alloc::{AllocError, Global};
 use table::{Record, Table};
-use words::keys::Key;
 use words::{Member, Rule};
 
 impl Book {

@@ -12,11 +12,11 @@ returns-then-begins_message c =
     let xs = c.args.octets.now in
     let e : seen c.read_message.result ≡ read xs =
     c.read_message.ensures.reads ∙ sym (read-is_message xs (leb-true 128 (octet xs 0) (sym c.if-begins_message.ensures))) in
-    record { reads = e; place = c.read_message.ensures.place; back = back_of xs c.read_message.result (λ i. (c.type-inv.octets i).fits) e }
+    record { reads = e; place = c.read_message.ensures.place; back = back_of xs c.read_message.result (λ i. (c.type_inv.octets i).fits) e }
 
 pub returns-else-begins_message : goal.returns-else-begins_message
 returns-else-begins_message c =
     let xs = c.args.octets.now in
     let e : seen c.read_meta.result ≡ read xs =
     c.read_meta.ensures.reads ∙ sym (read_is_meta xs (leb-false 128 (octet xs 0) (sym c.if-begins_message.ensures))) in
-    record { reads = e; place = c.read_meta.ensures.place; back = back_of xs c.read_meta.result (λ i. (c.type-inv.octets i).fits) e }
+    record { reads = e; place = c.read_meta.ensures.place; back = back_of xs c.read_meta.result (λ i. (c.type_inv.octets i).fits) e }
