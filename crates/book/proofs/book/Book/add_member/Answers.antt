@@ -23,7 +23,7 @@ invariant_of-self c =
     let b = c.args.self.now in
     let d = done c in
     let s = sound_as _ _ _ _ d.0 d.1 (member_seated c.args.member _ _ (sound_of b) (valid c)) in
-    (s.numbers, (s.rising, (s.members_valid, (s.rules_valid, (s.ports, (s.owners, tt))))))
+    record { numbers = s.numbers; rising = s.rising; members_valid = s.members_valid; rules_valid = s.rules_valid; ports = s.ports; owners = s.owners }
 
 pub returns : goal.returns
 returns c =

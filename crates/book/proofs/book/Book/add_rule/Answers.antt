@@ -7,4 +7,4 @@ pub invariant_of-self : goal.invariant_of-self
 invariant_of-self c =
     let b = c.args.self.now in
     let s = rule_put _ _ _ c.insert.result c.args.rule (sound_of b) (sym c.if-not-is_valid.ensures) (sym (c.if-not-contains.ensures b.numbers)) (c.insert.ensures.answer b.rising) c.insert.ensures.items in
-    (s.numbers, (s.rising, (s.members_valid, (s.rules_valid, (s.ports, (s.owners, tt))))))
+    record { numbers = s.numbers; rising = s.rising; members_valid = s.members_valid; rules_valid = s.rules_valid; ports = s.ports; owners = s.owners }

@@ -14,4 +14,4 @@ fill-requires-2 c = (omega arith, (sound_is_book c.args.run.now.octets.now (sym 
 pub invariant_of-self : goal.invariant_of-self
 invariant_of-self c =
     let s = sound_as _ _ _ _ c.fill.ensures c.fill-2.ensures (read_sound c.args.run.now.octets.now (sym c.if-not-is_sound.ensures.sound)) in
-    (s.numbers, (s.rising, (s.members_valid, (s.rules_valid, (s.ports, (s.owners, tt))))))
+    record { numbers = s.numbers; rising = s.rising; members_valid = s.members_valid; rules_valid = s.rules_valid; ports = s.ports; owners = s.owners }

@@ -6,4 +6,4 @@ pub invariant_of-self : goal.invariant_of-self
 invariant_of-self c =
     let b = c.args.self.now in
     let s = sound_as _ _ _ _ (c.remove-was.ensures.items b.numbers) c.retain.ensures.items (member_gone _ _ c.args.number (sound_of b)) in
-    (s.numbers, (s.rising, (s.members_valid, (s.rules_valid, (s.ports, (s.owners, tt))))))
+    record { numbers = s.numbers; rising = s.rising; members_valid = s.members_valid; rules_valid = s.rules_valid; ports = s.ports; owners = s.owners }
