@@ -14,9 +14,9 @@ fn port_bit(port: usize) -> u64
 
 // The frame is put at the port; the answer is the port's mask if it did not fit, else 0.
 pub fn offer<L: Line>(line: &mut L, port: usize, frame: &[u8]) -> u64
-    ensures answer { result ≡ missed (fitting line.old) (waiting line.old) port frame.now }
-    ensures queued { waiting line.new ≡ offered (fitting line.old) (waiting line.old) port frame.now }
-    ensures rule { fitting line.new ≡ fitting line.old }
+    ensures answer { result ≡ missed (L.fitting line.old) (L.waiting line.old) port frame.now }
+    ensures queued { L.waiting line.new ≡ offered (L.fitting line.old) (L.waiting line.old) port frame.now }
+    ensures rule { L.fitting line.new ≡ L.fitting line.old }
 {
     if line.put(port, frame) {
         0
@@ -27,9 +27,9 @@ pub fn offer<L: Line>(line: &mut L, port: usize, frame: &[u8]) -> u64
 
 // The frame is offered to each port of the list in turn; the answer is the mask of those where it did not fit.
 pub fn offer_all<L: Line>(line: &mut L, ports: &[usize], frame: &[u8]) -> u64
-    ensures answer { result ≡ missed_all (fitting line.old) (waiting line.old) ports.now frame.now }
-    ensures queued { waiting line.new ≡ offered_all (fitting line.old) (waiting line.old) ports.now frame.now }
-    ensures rule { fitting line.new ≡ fitting line.old }
+    ensures answer { result ≡ missed_all (L.fitting line.old) (L.waiting line.old) ports.now frame.now }
+    ensures queued { L.waiting line.new ≡ offered_all (L.fitting line.old) (L.waiting line.old) ports.now frame.now }
+    ensures rule { L.fitting line.new ≡ L.fitting line.old }
 {
     let mut mask = 0;
     for port in ports {

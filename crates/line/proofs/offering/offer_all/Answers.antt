@@ -1,5 +1,5 @@
 -- Each port has its turn, by the rule of the line as it was.
-use Rattle.std.proofs.Common.{◌≡◌, get_or, ap, ◌∙◌}
+use Rattle.std.proofs.Common.{◌≡◌, get_or}
 use Rattle.line.specs.Offers.{missed, offered}
 use Rattle.line.proofs.Offers.{ended, turn}
 use Rattle.line.proofs.offering.offer_all.Goals as goal
@@ -11,10 +11,9 @@ loop-port-preserved g c =
     let port = get_or c.args.ports.now c.loop-port.port-index 0 in
     let f = c.args.frame.now in
     let rule = m.fitting c.args.line.now in
-    let same = c.loop-port.invariant.1 in
-    let bit : c.offer-mask.result ≡ missed rule w port f = c.offer-mask.ensures.answer ∙ ap (λ r. missed r w port f) same in
-    let queued : m.waiting c.offer-mask.new.line ≡ offered rule w port f = c.offer-mask.ensures.queued ∙ ap (λ r. offered r w port f) same in
-    (turn rule w _ _ _ _ _ f _ _ c.loop-port-test.true bit queued c.loop-port.invariant.0, c.offer-mask.ensures.rule ∙ same)
+    let bit : c.offer-mask.result ≡ missed rule w port f = cc in
+    let queued : m.waiting c.offer-mask.new.line ≡ offered rule w port f = cc in
+    (turn rule w _ _ _ _ _ f _ _ c.loop-port-test.true bit queued c.loop-port.invariant.0, cc)
 
 pub returns : goal.returns
 returns g c =

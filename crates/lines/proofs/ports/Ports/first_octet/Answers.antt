@@ -12,4 +12,4 @@ returns-then-port-ge-PORTS c =
 
 pub returns : goal.returns
 returns c =
-    c.first-octet.ensures ∙ sym (ap (λ fs. octet_at fs c.args.i) (at_read c.args.self.now c.args.port c.index.result.now (omega arith) c.index.ensures))
+    c.first_octet.ensures ∙ sym (ap (λ fs. octet_at fs c.args.i) (at_read c.args.self.now c.args.port c.index.result.now (omega arith) c.index.ensures))

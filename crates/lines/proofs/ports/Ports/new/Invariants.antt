@@ -4,4 +4,4 @@ use Rattle.lines.specs.Queues.{frames}
 use Rattle.lines.proofs.ports.Ports.new.Given as goal
 
 abbrev pub invariant-loop-port : goal.invariant-loop-port
-invariant-loop-port l = (vec_len l.queues ≡ l.-port) × (map frames (vec_items l.queues) ≡ replicate l.-port [])
+invariant-loop-port l = (vec_len l.queues ≡ l._port) × (map frames (vec_items l.queues) ≡ replicate l._port [])

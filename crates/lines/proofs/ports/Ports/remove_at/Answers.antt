@@ -8,8 +8,8 @@ use Rattle.lines.proofs.ports.Ports.remove_at.Goals as goal
 pub returns-then-port-lt-PORTS : goal.returns-then-port-lt-PORTS
 returns-then-port-lt-PORTS c =
     let v = c.args.self.now in
-    let is = at_read v c.args.port c.index-mut.result.now (omega arith) c.index-mut.ensures.value in
-    changed (vec_items v.queues) c.args.port c.remove-at.new.self _ (omega arith) (c.remove-at.ensures ∙ ap (λ fs. remove fs c.args.i) (sym is))
+    let is = at_read v c.args.port c.index_mut.result.now (omega arith) c.index_mut.ensures.value in
+    changed (vec_items v.queues) c.args.port c.remove_at.new.self _ (omega arith) (c.remove_at.ensures ∙ ap (λ fs. remove fs c.args.i) (sym is))
 
 pub returns-else-port-lt-PORTS : goal.returns-else-port-lt-PORTS
 returns-else-port-lt-PORTS c = nothing (lists c.args.self.now) c.args.port c.args.i (at_past c.args.self.now c.args.port (omega arith))

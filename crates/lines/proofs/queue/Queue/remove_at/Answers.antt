@@ -15,8 +15,8 @@ returns-then-i-len c =
     let long = length_cut (vec_items q.lengths) (vec_items q.octets) in
     removed_past (frames q) c.args.i (omega arith)
 
-pub invariant-of-self : goal.invariant-of-self
-invariant-of-self c =
+pub invariant_of-self : goal.invariant_of-self
+invariant_of-self c =
     let q = c.args.self.now in
     let i = c.args.i in
     let ns = vec_items q.lengths in
@@ -28,9 +28,9 @@ invariant-of-self c =
     let less = taken_removed ns i in
     let a = c.truncate.ensures.len in
     let b = c.truncate.ensures.capacity in
-    let d = c.copy-within.ensures.len in
-    let e = c.copy-within.ensures.capacity in
-    (omega arith, (each, (omega arith, (omega arith, (omega arith, tt)))))
+    let d = c.copy_within.ensures.len in
+    let e = c.copy_within.ensures.capacity in
+    record { whole = omega arith; sized = each; fitting = omega arith; places = omega arith; room = omega arith }
 
 pub returns : goal.returns
 returns c =
@@ -44,7 +44,7 @@ returns c =
     let long : c.len-end.result ≡ length bs = omega arith in
     let left : vec_items c.truncate.new.self ≡ take at bs ++ drop (at + n) bs =
     c.truncate.ensures.items
-    ∙ ap (take (c.len-end.result - n)) c.copy-within.ensures.items
+    ∙ ap (take (c.len-end.result - n)) c.copy_within.ensures.items
     ∙ ap (λ m. take (m - n) (paste bs at (drop (at + n) bs) (m - (at + n)))) long
     ∙ closed_up bs at n (omega arith) in
     ap (cut (vec_items c.remove.new.self)) left

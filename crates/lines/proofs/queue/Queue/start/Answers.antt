@@ -5,8 +5,8 @@ use Rattle.lines.specs.Pieces.{total_more, within-total}
 use Rattle.lines.proofs.Queues.{octets_low}
 use Rattle.lines.proofs.queue.Queue.start.Goals as goal
 
-pub overflow-add-start : goal.overflow-add-start
-overflow-add-start c =
+pub overflow_add-start : goal.overflow_add-start
+overflow_add-start c =
     let q = c.args.self.now in
     let ns = vec_items q.lengths in
     let k = c.loop-k.k in

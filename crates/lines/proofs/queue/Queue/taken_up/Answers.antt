@@ -4,8 +4,8 @@ use Rattle.lines.proofs.Queues.{taken_up-is}
 use Rattle.lines.specs.RulesLemmas.{taken_is}
 use Rattle.lines.proofs.queue.Queue.taken_up.Goals as goal
 
-pub overflow-add-result : goal.overflow-add-result
-overflow-add-result c = let t = taken_is (vec_items c.args.self.now.lengths) in omega arith
+pub overflow_add-result : goal.overflow_add-result
+overflow_add-result c = let t = taken_is (vec_items c.args.self.now.lengths) in omega arith
 
 pub returns : goal.returns
 returns c =
