@@ -1,5 +1,5 @@
 -- What the registrar does to its book, an end that has its book does to its view when it reads what it is told. Assumes nothing.
-use Rattle.std.proofs.Common.{◌≡◌, ℕ, Bool, true, false, cond, not, ◌&&◌, ◌||◌, eqb, ◌⊎◌, List, [], ◌∷◌, ◌++◌, sym, refl, ap, ◌∙◌, subst, inl, inr, arith}
+use Rattle.std.proofs.Common.{◌≡◌, ℕ, Bool, true, false, cond, ◌&&◌, eqb, ◌⊎◌, List, [], ◌∷◌, ◌++◌, sym, refl, ap, ◌∙◌, inl, inr, arith}
 use Rattle.std.proofs.lemmas.Bool.{both_ways, eqb-false, ne_eqb, or_from, cond_both, cond-true, cond-false}
 use Rattle.words.specs.declared.member.Member.{Member}
 use Rattle.words.specs.declared.module_id.ModuleId.{ModuleId}
@@ -10,7 +10,7 @@ use Rattle.book.specs.declared.change.Change.{Change}
 use Rattle.book.specs.declared.change.Change.TheVariants.{Starting, Stopping, Enter, Withdraw}
 use Rattle.rules.specs.declared.standing.Standing.{Standing}
 use Rattle.rules.specs.declared.standing.Standing.TheVariants.{Out, Asked, In}
-use Rattle.rules.specs.Listings.{Listing, blank, has, accepts, changed, applied, Whole}
+use Rattle.rules.specs.Listings.{Listing, has, accepts, changed, Whole}
 use Rattle.rules.specs.Meanings.{Meaning, rejects, dead, changes, applies, welcomes, reports, carries, garbled, is_message}
 use Rattle.rules.specs.Ends.{Place, place, gone, names, answers, reads, reading}
 use Rattle.rules.proofs.Books.{one-at_port, stopped_was, started_was}

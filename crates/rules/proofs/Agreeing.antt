@@ -1,42 +1,40 @@
 -- Every call keeps the invariant of every port. Assumes nothing.
-use Rattle.std.proofs.Common.{◌≡◌, ℕ, zero, suc, ◌-◌, ◌<◌, ◌≤◌, Bool, true, false, cond, not, ◌&&◌, ◌||◌, eqb, ltb, leb, List, [], ◌∷◌, ◌++◌, map, length, get_or, take, drop, Some, None, sym, refl, ap, ◌∙◌, subst, append-nil, arith, take-append-drop, drop-cons}
+use Rattle.std.proofs.Common.{◌≡◌, ℕ, zero, suc, ◌-◌, ◌<◌, ◌≤◌, Bool, true, false, cond, not, ◌&&◌, ◌||◌, eqb, ltb, leb, List, [], ◌∷◌, ◌++◌, map, length, get_or, take, drop, sym, refl, ap, ◌∙◌, subst, arith, take-append-drop, drop-cons}
 use Rattle.std.specs.List.{remove, AllByRecursion as All}
 use Rattle.std.proofs.ByRecursion.{All-get_or, All-map, All-weaker}
-use Rattle.std.proofs.lemmas.Bool.{both_ways, and_parts, cond_both, cond-true, cond-false, eqb-true, eq-eqb, ne_eqb, ltb-true, leb-true, lt-ltb}
+use Rattle.std.proofs.lemmas.Bool.{and_parts, cond_both, cond-true, cond-false, eqb-true, ne_eqb, ltb-true, leb-true}
 use Rattle.words.specs.declared.member.Member.{Member}
-use Rattle.words.specs.Ranges.{within}
 use Rattle.words.specs.Records.{applicant_of, valid_member}
 use Rattle.wire.specs.declared.frame.RuleChange.{RuleChange}
 use Rattle.wire.specs.Frames.{FrameV}
-use Rattle.wire.specs.Writes.{write, carried, in_time}
-use Rattle.line.specs.Lines.{Rule as Fitting, Waiting, admits, added}
+use Rattle.wire.specs.Writes.{write, carried}
+use Rattle.line.specs.Lines.{Waiting, admits, added}
 use Rattle.book.specs.declared.audience.Audience.{Audience}
-use Rattle.book.specs.Matching.{recipients, some}
+use Rattle.book.specs.Matching.{some}
 use Rattle.rules.specs.declared.answer.Answer.{Answer}
-use Rattle.rules.specs.declared.answer.Answer.TheVariants.{Refused, Done, Query, Masks, Served, Received, Lost}
+use Rattle.rules.specs.declared.answer.Answer.TheVariants.{Done, Query}
 use Rattle.rules.specs.declared.refusal.Refusal.{Refusal}
 use Rattle.rules.specs.declared.request.Request.{Request}
 use Rattle.rules.specs.declared.request.Request.TheVariants.{Subscribe, Unsubscribe, Invite, Disinvite}
-use Rattle.rules.specs.declared.standing.Standing.TheVariants.{Out, Asked, In}
+use Rattle.rules.specs.declared.standing.Standing.TheVariants.{Out, Asked}
 use Rattle.rules.specs.Codes.{served_missed}
 use Rattle.rules.specs.Listings.{Listing, blank}
 use Rattle.rules.specs.Meanings.{Meaning, rejects, dead, changes, applies, welcomes, reports, carries, garbled, said, meaning, is_message, is_full}
 use Rattle.rules.specs.Ends.{Place, place, gone, reads}
-use Rattle.rules.specs.Registrar.{Deed, Numbered, deed, served, booked, told, Sending, sending, dispatch}
+use Rattle.rules.specs.Registrar.{Deed, Numbered, served, booked, told, Sending, sending, dispatch}
 use Rattle.line.specs.Laws.{in_mask}
 use Rattle.rules.specs.Puts.{Put, offers, queued, arrived, missed_mask}
-use Rattle.rules.specs.Calls.{End, end, State, Call, register, unregister, request, tell, receive, serve, report, lose, Outcome, judged, refusing, passed, at_end, self, putting, registering, register_checks, register_done, stopping, unregister_checks, unregister_done, request_frame, requesting, request_checks, request_done, sender, copy_for, copies, tell_checks, tell_done, frame_at, receive_checks, receive_done, read_by, serve_checks, serve_done, deed_of, reporting, report_checks, report_done, lose_checks, lose_done, Given, Event, line_less, puts_of, event_by, state_by, event, after}
-use Rattle.rules.specs.Promises.{by_registrar, by_lose, mask_answered, left_out, full_put, mark_taken, lost_there}
+use Rattle.rules.specs.Calls.{End, end, State, Call, register, unregister, request, tell, receive, serve, report, lose, Outcome, refusing, passed, putting, registering, register_checks, register_done, stopping, unregister_checks, unregister_done, request_frame, requesting, request_checks, request_done, copy_for, copies, tell_checks, tell_done, frame_at, receive_checks, receive_done, read_by, serve_checks, serve_done, deed_of, reporting, report_checks, report_done, lose_checks, lose_done, Given, Event, line_less, puts_of, event_by, state_by, event, after}
+use Rattle.rules.specs.Promises.{by_registrar, by_lose, mask_answered, left_out, full_put, lost_there}
 use Rattle.rules.proofs.Cases.{each_call}
 use Rattle.rules.proofs.Carried.{Sane, member_port, low_part, sane_octets, seats_right}
 use Rattle.rules.proofs.Dispatch.{Posted, deed_posted, few_sent, sent-mail, served_masked, listing_again}
 use Rattle.rules.proofs.Kept.{held, registering-carried, stopping-carried, requesting-carried, copy_carried, recipients_valid, written_at, reporting-carried}
 use Rattle.line.proofs.Masks.{in_none}
 use Rattle.rules.proofs.Proper.{Written, means, Proper, arrived_all, taken_there}
-use Rattle.rules.proofs.Putting.{sent, missed_at, none_put, sent_none, one_put, put_one, queued_at, queued_none, queued-one}
+use Rattle.rules.proofs.Putting.{sent, missed_at, sent_none, one_put, put_one, queued_at, queued_none, queued-one}
 use Rattle.rules.proofs.Queries.{reg_of}
 use Rattle.rules.proofs.Views.{Inv, Seats, inv_request, inv_register, inv_out, inv_messages, inv_report, inv_receive, inv_lose, inv_miss, inv_serve}
-use Rattle.rules.proofs.Waits.{AllMessages}
 
 pub map-++ : {A B : Type 0} (f : A → B) (a b : List A) → map f (a ++ b) ≡ map f a ++ map f b
 map-++ f [] b = refl

@@ -1,17 +1,17 @@
 -- Who stands in a book, and after a change. Assumes nothing.
-use Rattle.std.proofs.Common.{◌≡◌, ℕ, Bool, true, false, cond, not, ◌&&◌, ◌||◌, eqb, ltb, ◌⊎◌, List, [], ◌∷◌, filter, sym, refl, ap, ◌∙◌, subst, inl, inr, arith}
-use Rattle.std.proofs.lemmas.Bool.{both_ways, ltb-true, not-true, not_from_false, eqb-true, eqb-false, eq-eqb, ne_eqb, and_parts, and_from, or_cases, or_left, or_right, cond_both, cond-true}
+use Rattle.std.proofs.Common.{◌≡◌, ℕ, Bool, true, false, not, eqb, ltb, ◌⊎◌, List, [], ◌∷◌, filter, sym, refl, ap, ◌∙◌, inl, inr, arith}
+use Rattle.std.proofs.lemmas.Bool.{both_ways, ltb-true, not-true, not_from_false, eqb-true, eqb-false, eq-eqb, ne_eqb, and_parts, and_from, or_cases, or_left, or_right, cond_both}
 use Rattle.words.specs.declared.member.Member.{Member}
 use Rattle.words.specs.Keys.{member_key}
-use Rattle.words.specs.Records.{valid_member, member_of}
-use Rattle.table.specs.Ordered.{ascending, above, same, entered, without}
+use Rattle.words.specs.Records.{valid_member}
+use Rattle.table.specs.Ordered.{ascending, above, same}
 use Rattle.book.specs.declared.change.Change.{Change}
-use Rattle.book.specs.declared.change.Change.TheVariants.{Starting, Stopping, Enter, Withdraw}
-use Rattle.book.specs.Asked.{same_member, stands_so}
+use Rattle.book.specs.declared.change.Change.TheVariants.{Starting, Stopping}
+use Rattle.book.specs.Asked.{same_member}
 use Rattle.book.specs.Matching.{some}
 use Rattle.book.specs.Seating.{stays, stayers}
-use Rattle.book.specs.Sound.{each, other_port, ports_apart, holds}
-use Rattle.book.proofs.Keeping.{same-is, same_self as number-self, same_other}
+use Rattle.book.specs.Sound.{each, other_port, ports_apart}
+use Rattle.book.proofs.Keeping.{same_self as number-self, same_other}
 use Rattle.book.proofs.Membership.{stands-some}
 use Rattle.book.proofs.Taken.{sound_empty, sound_kept}
 use Rattle.rules.specs.Listings.{Listing, blank, has, seated_at, accepts, changed, applied, Whole}

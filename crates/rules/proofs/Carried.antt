@@ -1,40 +1,27 @@
 -- Every frame that a call puts is the writing of a record, and the state stays proper. Assumes nothing.
-use Rattle.std.proofs.Common.{◌≡◌, ℕ, suc, ◌+◌, ◌*◌, ◌%◌, ◌<◌, ◌≤◌, Bool, true, false, cond, not, ◌&&◌, ◌||◌, eqb, ltb, leb, ◌⊎◌, List, [], ◌∷◌, ◌++◌, map, length, get_or, filter, sym, refl, ap, ◌∙◌, subst, inl, inr, arith}
+use Rattle.std.proofs.Common.{◌≡◌, ℕ, ◌≤◌, true, false, ◌&&◌, eqb, leb, List, [], ◌∷◌, sym, ap, ◌∙◌, subst, arith}
 use Rattle.std.specs.List.{AllByRecursion as All}
-use Rattle.std.proofs.ByRecursion.{All-get_or, all_kept_by, All-map}
-use Rattle.std.proofs.lemmas.Bool.{both_ways, and_from, and_parts, cond_both, cond-true, cond-false, eqb-true, eq-eqb, ne_eqb, leb-true, le-leb, ltb-true}
+use Rattle.std.proofs.lemmas.Bool.{both_ways, and_from, and_parts, cond_both, cond-true, ne_eqb, leb-true, le-leb}
 use Rattle.words.specs.declared.applicant.Applicant.{Applicant}
 use Rattle.words.specs.declared.member.Member.{Member}
-use Rattle.words.specs.declared.rule.Rule.{Rule}
 use Rattle.words.specs.declared.rule_kind.RuleKind.{RuleKind}
-use Rattle.words.specs.declared.rule_kind.RuleKind.TheVariants.{Subscription, Invitation}
 use Rattle.words.specs.Books.{book_sound, has_word}
 use Rattle.words.specs.Ranges.{within}
-use Rattle.words.specs.Records.{applicant_of, id_of, member_of, module_of, valid_member, valid_module, valid_rule, member_word}
-use Rattle.wire.specs.declared.frame.RuleChange.{RuleChange}
+use Rattle.words.specs.Records.{id_of, module_of, valid_member, valid_module, member_word}
 use Rattle.wire.specs.Frames.{FrameV, rejection, you_are_dead, invite, disinvite, module_registration, you_are_in, i_am_starting, subscribe, unsubscribe, i_am_stopping, cell_status, message}
-use Rattle.wire.specs.Writes.{write, carried, change_carried, same_kind, in_time}
-use Rattle.book.specs.declared.audience.Audience.{Audience}
+use Rattle.wire.specs.Writes.{write, carried, in_time}
 use Rattle.book.specs.declared.change.Change.{Change}
 use Rattle.book.specs.declared.change.Change.TheVariants.{Starting, Stopping, Enter, Withdraw}
-use Rattle.book.specs.Matching.{receives, recipients, some}
-use Rattle.book.specs.Numbers.{First, after as numbered-after}
-use Rattle.book.specs.Sound.{Sound, each, other_port}
+use Rattle.book.specs.Numbers.{First}
+use Rattle.book.specs.Sound.{each, other_port}
 use Rattle.book.proofs.Keeping.{each_kept}
 use Rattle.book.proofs.Reading.{read_sound}
 use Rattle.book.proofs.Writing.{written_sound, written_has}
-use Rattle.rules.specs.declared.refusal.Refusal.{Refusal}
-use Rattle.rules.specs.declared.request.Request.{Request}
-use Rattle.rules.specs.declared.request.Request.TheVariants.{Subscribe, Unsubscribe, Invite, Disinvite}
-use Rattle.rules.specs.declared.standing.Standing.{Standing}
-use Rattle.rules.specs.declared.standing.Standing.TheVariants.{Out, Asked, In}
-use Rattle.rules.specs.Listings.{Listing, blank, has, standing, accepts, changed, applied, octets_of, Whole}
+use Rattle.rules.specs.Listings.{Listing, has, standing, accepts, changed, octets_of, Whole}
 use Rattle.rules.specs.Meanings.{Meaning, rejects, dead, changes, applies, welcomes, reports, carries, garbled, said, meaning, is_message}
-use Rattle.rules.specs.Ends.{Place, place, gone, names, answers, reads}
-use Rattle.rules.specs.Registrar.{Deed, idle, back, spread, admit, others, Numbered, list_full, tell_dead, tell_full, change_deed, newcomer, deed, booked, Sending, sending, to_each, dispatch}
-use Rattle.rules.specs.Calls.{End, end, State, Call, register, unregister, request, tell, receive, serve, report, lose, Outcome, judged, refusing, passed, is_in, self, member_by, registering, register_checks, stopping, unregister_checks, request_frame, requesting, request_checks, copy_for, copies, tell_checks, frame_at, receive_checks, read_by, serve_checks, deed_of, reporting, report_checks, lose_checks, outcome, Given, state_by, after}
-use Rattle.rules.proofs.Books.{blank_whole, changed_whole, applied_whole, started_there}
-use Rattle.rules.proofs.Proper.{Written, written, means, written_means, May, ProperEnd, Proper, Mailable, proper_by, proper_refused, proper_at}
+use Rattle.rules.specs.Registrar.{Deed, admit, others, Numbered, list_full, change_deed, newcomer, deed, booked, sending, to_each, dispatch}
+use Rattle.rules.proofs.Books.{changed_whole, applied_whole, started_there}
+use Rattle.rules.proofs.Proper.{Written, written, means, written_means, Mailable}
 
 -- what every record that was written gives
 abbrev pub Sane : Meaning → Type 0

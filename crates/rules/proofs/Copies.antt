@@ -1,30 +1,29 @@
 -- Copies add up. Assumes nothing.
-use Rattle.std.proofs.Common.{◌≡◌, ℕ, zero, suc, ◌+◌, ◌-◌, ◌*◌, ◌/◌, ◌%◌, ◌<◌, ◌≤◌, Bool, true, false, cond, not, ◌&&◌, ◌||◌, eqb, ltb, leb, ◌⊎◌, List, [], ◌∷◌, ◌++◌, map, length, get_or, take, drop, Some, None, filter, sym, refl, ap, ◌∙◌, subst, inl, inr, append-nil, arith, length-append}
+use Rattle.std.proofs.Common.{◌≡◌, ℕ, suc, ◌+◌, ◌-◌, ◌*◌, ◌/◌, ◌%◌, ◌<◌, ◌≤◌, Bool, true, false, cond, not, ◌&&◌, ◌||◌, eqb, ltb, leb, ◌⊎◌, List, [], ◌∷◌, ◌++◌, map, length, get_or, take, drop, sym, refl, ap, ◌∙◌, subst, inl, inr, append-nil, arith, length-append}
 use Rattle.std.specs.List.{remove, AllByRecursion as All}
 use Rattle.std.proofs.lemmas.List.Elements.{filter-append}
 use Rattle.std.proofs.ByRecursion.{All-get_or}
-use Rattle.std.proofs.lemmas.Bool.{both_ways, and_from, and_parts, lt-ltb, not-true, cond_both, cond-true, cond-false, eqb-true, eqb-false, eq-eqb, ne_eqb, ltb-true, leb-true, le-ltb}
+use Rattle.std.proofs.lemmas.Bool.{and_from, and_parts, lt-ltb, not-true, cond-true, cond-false, eqb-true, ltb-true, leb-true, le-ltb}
 use Rattle.words.specs.declared.member.Member.{Member}
 use Rattle.words.specs.declared.head.MessageHead.{MessageHead}
 use Rattle.words.specs.declared.message_kind.MessageKind.{MessageKind}
 use Rattle.words.specs.declared.message_kind.MessageKind.TheVariants.{Published, Announced, Private}
 use Rattle.words.specs.Heads.{kind_number, valid_head}
 use Rattle.words.proofs.Trips.{head_bounds}
-use Rattle.words.specs.Ranges.{within}
 use Rattle.words.specs.Records.{id_of, module_by, valid_member}
 use Rattle.wire.specs.declared.meta_type.MetaType.{MetaType}
 use Rattle.wire.specs.declared.meta_type.MetaType.TheVariants.{Rejection, YouAreDead, YouAreIn}
 use Rattle.wire.specs.Frames.{FrameV, rejection, you_are_dead, invite, disinvite, module_registration, you_are_in, i_am_starting, subscribe, unsubscribe, i_am_stopping, cell_status, message}
 use Rattle.wire.specs.Writes.{write, carried}
-use Rattle.line.specs.Lines.{Rule as Fitting, Waiting}
+use Rattle.line.specs.Lines.{Waiting}
 use Rattle.book.specs.declared.audience.Audience.{Audience}
 use Rattle.book.specs.Matching.{recipients, receives, some}
 use Rattle.book.specs.Sound.{each, other_port, ports_apart}
-use Rattle.book.proofs.Keeping.{each_kept, ports_kept}
+use Rattle.book.proofs.Keeping.{ports_kept}
 use Rattle.rules.specs.declared.answer.Answer.{Answer}
-use Rattle.rules.specs.declared.answer.Answer.TheVariants.{Refused, Done, Query, Masks, Served, Received, Lost}
+use Rattle.rules.specs.declared.answer.Answer.TheVariants.{Done, Query}
 use Rattle.rules.specs.declared.lost.Lost.TheVariants.{Message, Other}
-use Rattle.rules.specs.declared.received.Received.TheVariants.{HandedOver, TurnedAside, Read, Rejected, Unreadable, SetAside}
+use Rattle.rules.specs.declared.received.Received.TheVariants.{HandedOver, TurnedAside, Read, Rejected, SetAside}
 use Rattle.rules.specs.declared.refusal.Refusal.{Refusal}
 use Rattle.rules.specs.declared.standing.Standing.{Standing}
 use Rattle.rules.specs.declared.standing.Standing.TheVariants.{Out, Asked, In}
@@ -34,15 +33,15 @@ use Rattle.rules.specs.Meanings.{Meaning, rejects, dead, changes, applies, welco
 use Rattle.rules.specs.Ends.{names, answers, change_type, received, wanted}
 use Rattle.rules.specs.Registrar.{one_if, Sending, sending}
 use Rattle.line.specs.Laws.{in_mask}
-use Rattle.rules.specs.Puts.{Put, offers, queued, arrived, mask_of, reached_mask}
-use Rattle.rules.specs.Calls.{End, State, Call, register, unregister, request, tell, receive, serve, report, lose, Outcome, refusing, passed, putting, sender, copy_for, copies, register_checks, register_done, registering, unregister_checks, unregister_done, stopping, request_checks, request_done, requesting, tell_checks, tell_done, frame_at, receive_checks, receive_done, serve_checks, serve_done, report_checks, report_done, reporting, lose_checks, lose_done, outcome, Given, Event, line_less, puts_of, event_by, state_by, event, after}
-use Rattle.rules.specs.Runs.{History, begin, ◌▹◌, Step, Reached}
-use Rattle.rules.specs.Copies.{Octets, mask_reached, receive_code, lose_code, taken_at, put_there, read_as, lost_from, gathered, puts, handed_over, turned_aside, lost_ones, put_count, messages, waiting_copies, Account, CopiesAddUp}
+use Rattle.rules.specs.Puts.{Put, arrived, reached_mask}
+use Rattle.rules.specs.Calls.{End, State, Call, register, unregister, request, tell, receive, serve, report, lose, Outcome, refusing, passed, putting, sender, copy_for, copies, register_done, registering, unregister_done, stopping, request_done, requesting, tell_checks, tell_done, frame_at, receive_checks, receive_done, serve_checks, serve_done, report_checks, report_done, reporting, lose_checks, lose_done, outcome, Given, Event, line_less, puts_of, event_by, state_by, event, after}
+use Rattle.rules.specs.Runs.{History, begin, ◌▹◌, Reached}
+use Rattle.rules.specs.Copies.{Octets, mask_reached, put_there, read_as, lost_from, puts, handed_over, turned_aside, lost_ones, put_count, messages, CopiesAddUp}
 use Rattle.rules.proofs.Agreeing.{split_at, copies_arrive, official_arrive}
-use Rattle.rules.proofs.Carried.{member_port, low_part, high_part}
+use Rattle.rules.proofs.Carried.{member_port, high_part}
 use Rattle.rules.proofs.Cases.{each_call}
 use Rattle.rules.proofs.Dispatch.{eqb_swap}
-use Rattle.rules.proofs.Kept.{held, registering-carried, stopping-carried, requesting-carried, request_plain, recipients_valid, written_at, reporting-carried, proper}
+use Rattle.rules.proofs.Kept.{held, registering-carried, stopping-carried, requesting-carried, request_plain, recipients_valid, reporting-carried, proper}
 use Rattle.rules.proofs.Ledger.{Ledger, ledger_put, ledger_hand, ledger_turn, ledger_lose, less_removed, fates}
 use Rattle.line.proofs.Masks.{in_none}
 use Rattle.rules.proofs.Masks.{mask_at}

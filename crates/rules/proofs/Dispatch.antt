@@ -1,7 +1,7 @@
 -- What a serve puts is what the port is told, at most one frame for a port. Assumes nothing.
-use Rattle.std.proofs.Common.{◌≡◌, ℕ, ◌<◌, ◌≤◌, Bool, true, false, cond, not, ◌&&◌, ◌||◌, eqb, ltb, List, [], ◌∷◌, ◌++◌, map, filter, sym, refl, ap, ◌∙◌, subst, arith}
+use Rattle.std.proofs.Common.{◌≡◌, ℕ, Bool, true, false, cond, not, ◌||◌, eqb, ltb, List, [], ◌∷◌, map, sym, refl, ap, ◌∙◌, subst, arith}
 use Rattle.std.specs.List.{AllByRecursion as All}
-use Rattle.std.proofs.lemmas.Bool.{both_ways, and_from, and_parts, cases_Bool, cond_both, cond-true, cond-false, eqb-true, eqb-false, eq-eqb, ne_eqb, lt-ltb, not-true}
+use Rattle.std.proofs.lemmas.Bool.{and_from, and_parts, cond_both, cond-true, cond-false, eqb-true, eqb-false, eq-eqb, ne_eqb, lt-ltb, not-true}
 use Rattle.words.specs.declared.member.Member.{Member}
 use Rattle.words.specs.Ranges.{within}
 use Rattle.words.specs.Records.{id_of, module_of, valid_member}
@@ -15,17 +15,17 @@ use Rattle.book.specs.Sound.{each, other_port, ports_apart}
 use Rattle.book.proofs.Keeping.{each_kept, ports_kept}
 use Rattle.book.proofs.Writing.{members_again, rules_again}
 use Rattle.rules.specs.declared.served.Served.{Served}
-use Rattle.rules.specs.declared.served.Served.TheVariants.{Done, Unchanged, Rejected, Unknown, Unreadable, SetAside}
+use Rattle.rules.specs.declared.served.Served.TheVariants.{Done, Unchanged, Rejected, Unknown}
 use Rattle.rules.specs.Codes.{served_missed}
 use Rattle.rules.specs.Listings.{Listing, has, standing, seated_at, accepts, changed, applied, octets_of, listing_in, Whole}
-use Rattle.rules.specs.Meanings.{Meaning, rejects, dead, changes, applies, welcomes, reports, carries, garbled, said, meaning, is_message, is_full}
-use Rattle.rules.specs.Registrar.{Deed, idle, back, spread, admit, others, Numbered, one_if, list_full, tell_dead, tell_full, change_deed, newcomer, deed, change_served, served, booked, told, Sending, sending, to_each, dispatch}
+use Rattle.rules.specs.Meanings.{Meaning, rejects, dead, changes, applies, welcomes, reports, carries, garbled, said, meaning, is_message}
+use Rattle.rules.specs.Registrar.{Deed, idle, back, spread, admit, others, Numbered, one_if, list_full, tell_dead, tell_full, change_deed, newcomer, deed, change_served, served, told, Sending, to_each, dispatch}
 use Rattle.line.specs.Laws.{in_mask}
-use Rattle.rules.specs.Puts.{Put, offers, missed_mask}
+use Rattle.rules.specs.Puts.{offers, missed_mask}
 use Rattle.rules.proofs.Books.{applied_whole, changed_whole}
 use Rattle.rules.proofs.Carried.{Sane, seats_right, welcome-carried, member_parts, module_small, module_right, low_part, high_part}
 use Rattle.line.proofs.Masks.{in_none}
-use Rattle.rules.proofs.Proper.{Written, means}
+use Rattle.rules.proofs.Proper.{means}
 use Rattle.rules.proofs.Putting.{Few, sent, missed_at, missed-in_mask}
 
 pub eqb_swap : (a b : ℕ) → eqb a b ≡ eqb b a

@@ -1,5 +1,5 @@
 -- What a serve answered and took tells what it did to the book; with it, rules stand as served. Assumes nothing.
-use Rattle.std.proofs.Common.{◌≡◌, ℕ, Bool, true, false, cond, ◌⊎◌, List, [], Some, None, Option, sym, refl, ap, ◌∙◌, subst, inl, inr, arith}
+use Rattle.std.proofs.Common.{◌≡◌, ℕ, Bool, true, false, cond, ◌⊎◌, List, Some, sym, refl, ap, ◌∙◌, subst, inl, inr, arith}
 use Rattle.std.proofs.lemmas.Bool.{both_ways, cond-true}
 use Rattle.words.specs.declared.applicant.Applicant.{Applicant}
 use Rattle.words.specs.declared.member.Member.{Member}
@@ -7,17 +7,15 @@ use Rattle.words.specs.declared.rule.Rule.{Rule}
 use Rattle.words.specs.Records.{valid_member}
 use Rattle.book.specs.declared.change.Change.{Change}
 use Rattle.book.specs.declared.change.Change.TheVariants.{Starting, Stopping, Enter, Withdraw}
-use Rattle.rules.specs.declared.refusal.Refusal.{Refusal}
-use Rattle.rules.specs.declared.served.Served.{Served}
-use Rattle.rules.specs.declared.served.Served.TheVariants.{Done, Unchanged, Rejected, Unknown, Unreadable, SetAside}
+use Rattle.rules.specs.declared.served.Served.TheVariants.{Done, Unchanged, Rejected, Unknown}
 use Rattle.rules.specs.Codes.{served_code}
-use Rattle.rules.specs.Listings.{Listing, has, standing, accepts, changed, applied, Whole}
+use Rattle.rules.specs.Listings.{Listing, has, standing, accepts, applied}
 use Rattle.rules.specs.Meanings.{Meaning, rejects, dead, changes, applies, welcomes, reports, carries, garbled, meaning}
-use Rattle.rules.specs.Registrar.{Deed, idle, back, spread, Numbered, tell_dead, tell_full, change_deed, newcomer, deed, change_served, served, booked}
+use Rattle.rules.specs.Registrar.{idle, spread, Numbered, tell_dead, tell_full, change_deed, newcomer, deed, change_served, served, booked}
 use Rattle.rules.specs.Puts.{missed_mask}
-use Rattle.rules.specs.Calls.{State, Call, serve, Outcome, refusing, passed, frame_at, serve_checks, serve_done, Took, took, Event, puts_of, event_by, state_by, event, after, Given, outcome}
+use Rattle.rules.specs.Calls.{State, Call, serve, passed, frame_at, serve_checks, serve_done, Took, Event, puts_of, event_by, event, after, Given}
 use Rattle.rules.specs.Runs.{History, begin, ◌▹◌, Step, Reached}
-use Rattle.rules.specs.Upheld.{serve_code, Serving, Enters, Withdraws, Ends, ◌▸▸◌, Every, Stood, Standing, RulesStand}
+use Rattle.rules.specs.Upheld.{serve_code, Serving, Enters, Withdraws, Ends, ◌▸▸◌, Every, Stood, RulesStand}
 use Rattle.rules.proofs.Agreeing.{served_written}
 use Rattle.rules.proofs.Books.{one_with_number}
 use Rattle.rules.proofs.Carried.{Sane, sane_octets, seats_right}

@@ -1,43 +1,34 @@
 -- Every call leaves a proper state. Assumes nothing.
-use Rattle.std.proofs.Common.{◌≡◌, ℕ, suc, ◌+◌, ◌*◌, ◌%◌, ◌<◌, ◌≤◌, Bool, true, false, cond, not, ◌&&◌, ◌||◌, eqb, ltb, leb, ◌⊎◌, List, [], ◌∷◌, ◌++◌, map, length, get_or, filter, sym, refl, ap, ◌∙◌, subst, inl, inr, arith}
+use Rattle.std.proofs.Common.{◌≡◌, ℕ, suc, Bool, true, false, ◌&&◌, eqb, ltb, leb, List, [], ◌∷◌, map, length, sym, refl, subst, arith}
 use Rattle.std.specs.List.{AllByRecursion as All}
-use Rattle.std.proofs.ByRecursion.{All-get_or, all_kept_by, All-map}
-use Rattle.std.proofs.lemmas.Bool.{both_ways, and_from, and_parts, cond_both, cond-true, cond-false, eqb-true, eq-eqb, ne_eqb, leb-true, le-leb, ltb-true}
-use Rattle.words.specs.declared.applicant.Applicant.{Applicant}
+use Rattle.std.proofs.ByRecursion.{All-get_or, all_kept_by}
+use Rattle.std.proofs.lemmas.Bool.{both_ways, and_from, and_parts, cond_both, eqb-true, eq-eqb, le-leb, ltb-true}
 use Rattle.words.specs.declared.member.Member.{Member}
-use Rattle.words.specs.declared.rule.Rule.{Rule}
 use Rattle.words.specs.declared.rule_kind.RuleKind.{RuleKind}
 use Rattle.words.specs.declared.rule_kind.RuleKind.TheVariants.{Subscription, Invitation}
-use Rattle.words.specs.Books.{book_sound, has_word}
 use Rattle.words.specs.Ranges.{within}
-use Rattle.words.specs.Records.{rule_of, applicant_of, id_of, member_of, module_of, valid_member, valid_module, valid_rule, member_word}
+use Rattle.words.specs.Records.{rule_of, member_of, valid_member}
 use Rattle.wire.specs.declared.frame.RuleChange.{RuleChange}
-use Rattle.wire.specs.Frames.{FrameV, rejection, you_are_dead, invite, disinvite, module_registration, you_are_in, i_am_starting, subscribe, unsubscribe, i_am_stopping, cell_status, message}
 use Rattle.wire.specs.Writes.{write, carried, change_carried, same_kind, in_time}
 use Rattle.book.specs.declared.audience.Audience.{Audience}
-use Rattle.book.specs.declared.change.Change.{Change}
-use Rattle.book.specs.declared.change.Change.TheVariants.{Starting, Stopping, Enter, Withdraw}
-use Rattle.book.specs.Matching.{receives, recipients, some}
-use Rattle.book.specs.Numbers.{First, after as numbered-after}
-use Rattle.book.specs.Sound.{Sound, each, other_port}
-use Rattle.book.proofs.Keeping.{each_kept}
-use Rattle.book.proofs.Reading.{read_sound}
-use Rattle.book.proofs.Writing.{written_sound, written_has}
+use Rattle.book.specs.Matching.{recipients}
+use Rattle.book.specs.Sound.{each}
+use Rattle.book.proofs.Writing.{written_sound}
 use Rattle.rules.specs.declared.refusal.Refusal.{Refusal}
 use Rattle.rules.specs.declared.request.Request.{Request}
 use Rattle.rules.specs.declared.request.Request.TheVariants.{Subscribe, Unsubscribe, Invite, Disinvite}
 use Rattle.rules.specs.declared.standing.Standing.{Standing}
 use Rattle.rules.specs.declared.standing.Standing.TheVariants.{Out, Asked, In}
-use Rattle.rules.specs.Listings.{Listing, blank, has, standing, accepts, changed, applied, octets_of, Whole}
+use Rattle.rules.specs.Listings.{Listing, blank, has, Whole}
 use Rattle.rules.specs.Meanings.{Meaning, rejects, dead, changes, applies, welcomes, reports, carries, garbled, said, meaning, is_message}
-use Rattle.rules.specs.Ends.{Place, place, gone, names, answers, reads}
-use Rattle.rules.specs.Registrar.{Deed, idle, back, spread, admit, others, Numbered, list_full, tell_dead, tell_full, change_deed, newcomer, deed, booked, Sending, sending, to_each, dispatch}
-use Rattle.rules.specs.Calls.{End, end, State, Call, register, unregister, request, tell, receive, serve, report, lose, Outcome, judged, refusing, passed, is_in, self, member_by, registering, register_checks, stopping, unregister_checks, kind_asked, request_frame, requesting, request_checks, audience_right, sender, copy_for, copies, tell_checks, frame_at, receive_checks, read_by, serve_checks, deed_of, reporting, report_checks, lose_checks, outcome, Given, state_by, after, register_done, unregister_done, request_done, tell_done, receive_done, serve_done, report_done, lose_done}
-use Rattle.rules.proofs.Books.{blank_whole, changed_whole, applied_whole, started_there}
-use Rattle.rules.specs.Runs.{History, begin, ◌▹◌, New, Reached, Step}
+use Rattle.rules.specs.Ends.{Place, names, answers, reads}
+use Rattle.rules.specs.Registrar.{sending}
+use Rattle.rules.specs.Calls.{end, State, Call, serve, passed, is_in, self, member_by, registering, register_checks, stopping, unregister_checks, kind_asked, request_frame, requesting, request_checks, audience_right, sender, copy_for, tell_checks, frame_at, receive_checks, read_by, serve_checks, reporting, report_checks, Given, state_by, after, register_done, unregister_done, request_done, tell_done, receive_done, serve_done, report_done, lose_done}
+use Rattle.rules.proofs.Books.{blank_whole, applied_whole}
+use Rattle.rules.specs.Runs.{History, begin, ◌▹◌, New, Reached}
 use Rattle.rules.proofs.Carried.{Sane, sane_octets, to_end, to_registrar, member_parts, member_port, deed_sends, deed-booked}
 use Rattle.rules.proofs.Cases.{each_call}
-use Rattle.rules.proofs.Proper.{Written, written, means, written_means, May, ProperEnd, Proper, Mailable, proper_by, proper_refused, proper_at}
+use Rattle.rules.proofs.Proper.{Written, May, ProperEnd, Proper, Mailable, proper_by, proper_refused, proper_at}
 
 -- all the checks that a call passed
 pub held : (cs : List (Bool × Refusal)) → passed cs ≡ true → All (λ (c : Bool × Refusal). c.0 ≡ true) cs

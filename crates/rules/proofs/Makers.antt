@@ -1,26 +1,25 @@
 -- Who put what waits at an end's port is seen from the frames: a registrar's call, unless it is a message. With it,
 -- views agree. Assumes nothing.
-use Rattle.std.proofs.Common.{◌≡◌, ℕ, zero, suc, ◌<◌, ◌≤◌, Bool, true, false, cond, not, ◌&&◌, ◌||◌, eqb, List, [], ◌∷◌, ◌++◌, map, length, take, drop, Some, None, Option, sym, refl, ap, ◌∙◌, subst, arith}
+use Rattle.std.proofs.Common.{◌≡◌, ℕ, zero, suc, ◌≤◌, Bool, true, false, cond, not, eqb, List, [], ◌∷◌, ◌++◌, map, take, drop, Some, None, Option, sym, refl, ap, ◌∙◌, subst}
 use Rattle.std.specs.List.{remove, AllByRecursion as All}
 use Rattle.std.proofs.ByRecursion.{All-weaker}
-use Rattle.std.proofs.lemmas.Bool.{both_ways, cond_both, cond-false, eqb-true}
+use Rattle.std.proofs.lemmas.Bool.{both_ways, eqb-true}
 use Rattle.words.specs.Records.{member_of}
 use Rattle.wire.specs.Frames.{FrameV}
 use Rattle.wire.specs.Writes.{write}
 use Rattle.book.specs.declared.audience.Audience.{Audience}
 use Rattle.rules.specs.declared.answer.Answer.{Answer}
 use Rattle.rules.specs.declared.answer.Answer.TheVariants.{Done, Query}
-use Rattle.rules.specs.declared.refusal.Refusal.{Refusal}
 use Rattle.rules.specs.declared.standing.Standing.{Standing}
 use Rattle.rules.specs.declared.standing.Standing.TheVariants.{Out, In}
 use Rattle.rules.specs.Listings.{Listing, blank}
-use Rattle.rules.specs.Meanings.{Meaning, reports, meaning, is_message}
+use Rattle.rules.specs.Meanings.{meaning, is_message}
 use Rattle.rules.specs.Ends.{Place, place, reads, reading}
 use Rattle.rules.specs.Registrar.{sending}
-use Rattle.rules.specs.Puts.{arrived, offers}
-use Rattle.rules.specs.Calls.{End, end, State, Call, register, unregister, request, tell, receive, serve, report, lose, Taking, Outcome, refusing, passed, putting, registering, register_checks, register_done, stopping, unregister_checks, unregister_done, requesting, request_checks, request_done, copies, tell_checks, tell_done, frame_at, receive_checks, receive_done, serve_checks, serve_done, deed_of, reporting, report_checks, report_done, lose_checks, lose_done, outcome, Given, took, line_less, puts_of, Event, event_by, state_by, event, after}
+use Rattle.rules.specs.Puts.{arrived}
+use Rattle.rules.specs.Calls.{End, State, Call, register, unregister, request, tell, receive, serve, report, lose, Taking, Outcome, refusing, passed, putting, registering, register_done, stopping, unregister_done, requesting, request_done, tell_checks, tell_done, receive_done, serve_checks, serve_done, reporting, report_checks, report_done, lose_done, outcome, Given, took, line_less, puts_of, Event, state_by, after}
 use Rattle.rules.specs.Runs.{History, begin, ◌▹◌, New, Reached}
-use Rattle.rules.specs.Promises.{by_registrar, less_taken, makers, clean, official, Gives, InStep, ViewsAgree}
+use Rattle.rules.specs.Promises.{by_registrar, less_taken, makers, clean, official, ViewsAgree}
 use Rattle.rules.proofs.Agree.{reading-without}
 use Rattle.rules.proofs.Agreeing.{map-++, away, Holds, cleaned, holds_after, copies_arrive, official_arrive}
 use Rattle.rules.proofs.Books.{blank_whole}

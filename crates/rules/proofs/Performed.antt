@@ -1,5 +1,5 @@
 -- The promises after every call, and after every call of a list. Assumes nothing.
-use Rattle.std.proofs.Common.{◌≡◌, List, [], ◌∷◌, ◌++◌, sym, refl, ap, ◌∙◌, subst}
+use Rattle.std.proofs.Common.{List, [], ◌∷◌, ◌++◌, refl, ap, subst}
 use Rattle.rules.specs.declared.answer.Answer.{Answer}
 use Rattle.rules.specs.Calls.{State, Call, Event}
 use Rattle.rules.specs.Runs.{History, ◌▹◌, Step, Reached}

@@ -1,25 +1,22 @@
 -- In every state of a run the book and the views are books, and what waits was written of a record. Assumes nothing.
-use Rattle.std.proofs.Common.{◌≡◌, ℕ, zero, suc, ◌+◌, ◌-◌, ◌*◌, ◌<◌, ◌≤◌, Bool, true, false, cond, not, ◌&&◌, ◌||◌, eqb, ltb, leb, ◌⊎◌, List, [], ◌∷◌, ◌++◌, map, length, get_or, take, drop, Some, None, Ok, filter, Option, sym, refl, ap, ◌∙◌, subst, inl, inr, append-nil, arith}
+use Rattle.std.proofs.Common.{◌≡◌, ℕ, suc, ◌≤◌, Bool, true, false, cond, ◌&&◌, eqb, ltb, List, [], ◌∷◌, length, get_or, take, drop, Some, None, Option, sym, refl, ap, ◌∙◌, subst}
 use Rattle.std.specs.List.{remove, AllByRecursion as All}
-use Rattle.std.proofs.ByRecursion.{All-append, All-take, All-drop, All-get_or}
-use Rattle.std.proofs.lemmas.Bool.{both_ways, and_from, and_parts, cond_both, cond-true, cond-false, eqb-true, eq-eqb, leb-true, le-leb, ltb-true}
-use Rattle.words.specs.declared.member.Member.{Member}
-use Rattle.words.specs.declared.rule_kind.RuleKind.TheVariants.{Subscription, Invitation}
-use Rattle.words.specs.Ranges.{within, member_valid}
-use Rattle.words.specs.Records.{id_of, member_of, module_of, valid_member}
-use Rattle.wire.specs.Frames.{FrameV, rejection, you_are_dead, invite, disinvite, module_registration, you_are_in, i_am_starting, subscribe, unsubscribe, i_am_stopping, cell_status, message}
-use Rattle.wire.specs.Reads.{read}
-use Rattle.wire.specs.Writes.{write, carried, in_time}
+use Rattle.std.proofs.ByRecursion.{All-append, All-take, All-drop}
+use Rattle.std.proofs.lemmas.Bool.{both_ways, and_parts, cond_both, eqb-true}
+use Rattle.words.specs.Ranges.{within}
+use Rattle.words.specs.Records.{member_of, valid_member}
+use Rattle.wire.specs.Frames.{FrameV}
+use Rattle.wire.specs.Writes.{write, carried}
 use Rattle.wire.proofs.Forth.{read_written}
-use Rattle.line.specs.Lines.{Rule as Fitting, Waiting, without}
+use Rattle.line.specs.Lines.{Rule as Fitting, Waiting}
 use Rattle.line.specs.Offers.{offered}
 use Rattle.rules.specs.declared.refusal.Refusal.{Refusal}
 use Rattle.rules.specs.declared.standing.Standing.{Standing}
 use Rattle.rules.specs.declared.standing.Standing.TheVariants.{Out, Asked, In}
-use Rattle.rules.specs.Listings.{Listing, blank, Whole}
-use Rattle.rules.specs.Meanings.{Meaning, rejects, dead, changes, applies, welcomes, reports, carries, garbled, said, said_by, meaning, is_message}
-use Rattle.rules.specs.Registrar.{Sending, sending}
-use Rattle.rules.specs.Puts.{Put, offer, offers, queued, arrived}
+use Rattle.rules.specs.Listings.{Whole}
+use Rattle.rules.specs.Meanings.{said, said_by, meaning, is_message}
+use Rattle.rules.specs.Registrar.{Sending}
+use Rattle.rules.specs.Puts.{offer, offers, arrived}
 use Rattle.rules.specs.Calls.{End, State, Taking, Outcome, refusing, state_by, line_less}
 use Rattle.rules.proofs.Putting.{queued_at}
 

@@ -1,18 +1,16 @@
 -- What the registrar tells a port, apart from a welcome. Assumes nothing.
-use Rattle.std.proofs.Common.{◌≡◌, ℕ, Bool, true, false, cond, not, ◌&&◌, ◌||◌, eqb, List, [], ◌∷◌, ◌++◌, sym, refl, ap, ◌∙◌, subst, arith}
+use Rattle.std.proofs.Common.{◌≡◌, ℕ, Bool, true, false, ◌&&◌, ◌||◌, eqb, List, [], ◌∷◌, ◌++◌, sym, refl, ap, ◌∙◌, subst}
 use Rattle.std.proofs.lemmas.Bool.{both_ways, eqb-true, and_parts, cond_both, cond-true}
 use Rattle.words.specs.declared.member.Member.{Member}
-use Rattle.words.specs.declared.rule.Rule.{Rule}
 use Rattle.words.specs.Records.{id_of, member_of, module_of, valid_member}
-use Rattle.wire.specs.Frames.{FrameV}
 use Rattle.book.specs.declared.change.Change.{Change}
 use Rattle.book.specs.declared.change.Change.TheVariants.{Starting, Stopping, Enter, Withdraw}
 use Rattle.book.specs.Matching.{some}
 use Rattle.rules.specs.declared.standing.Standing.{Standing}
 use Rattle.rules.specs.Listings.{Listing, has, standing, seated_at, accepts, changed, applied, Whole}
-use Rattle.rules.specs.Meanings.{Meaning, rejects, dead, changes, applies, welcomes, reports, carries, garbled, said, is_full}
+use Rattle.rules.specs.Meanings.{Meaning, rejects, dead, changes, is_full}
 use Rattle.rules.specs.Ends.{Place, place, reads, reading}
-use Rattle.rules.specs.Registrar.{Deed, idle, back, spread, admit, one_if, list_full, tell_dead, tell_full, change_deed, deed, booked, told}
+use Rattle.rules.specs.Registrar.{Deed, spread, one_if, list_full, tell_dead, change_deed, booked, told}
 use Rattle.rules.proofs.Books.{changed_whole, seated_by}
 use Rattle.rules.proofs.Queries.{in_of, ins}
 use Rattle.rules.proofs.Waits.{Harmless, Safe}

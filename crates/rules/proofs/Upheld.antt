@@ -1,6 +1,6 @@
 -- Rules stand as served. Assumes nothing.
-use Rattle.std.proofs.Common.{◌≡◌, ℕ, Bool, true, false, cond, not, ◌&&◌, ◌||◌, eqb, ltb, ◌⊎◌, List, [], ◌∷◌, Some, None, filter, sym, refl, ap, ◌∙◌, subst, inl, inr, arith}
-use Rattle.std.proofs.lemmas.Bool.{both_ways, not-true, not_from_false, eqb-true, eqb-false, ne_eqb, and_parts, and_from, or_cases, or_left, or_right, cases_Bool, cond_both, cond-true, cond-false}
+use Rattle.std.proofs.Common.{◌≡◌, ℕ, Bool, true, false, not, eqb, ltb, ◌⊎◌, List, filter, sym, refl, ap, ◌∙◌, inl, inr, arith}
+use Rattle.std.proofs.lemmas.Bool.{both_ways, not-true, not_from_false, eqb-true, eqb-false, ne_eqb, and_parts, and_from, or_cases, or_left, or_right}
 use Rattle.words.specs.declared.applicant.Applicant.{Applicant}
 use Rattle.words.specs.declared.member.Member.{Member}
 use Rattle.words.specs.declared.rule.Rule.{Rule}
@@ -11,19 +11,17 @@ use Rattle.words.specs.Keys.{member_key, rule_key, rule_less}
 use Rattle.words.specs.Records.{rule_kind_number, valid_member}
 use Rattle.words.specs.Orders.{rule_order}
 use Rattle.table.specs.Ordered.{same}
-use Rattle.book.specs.declared.change.Change.{Change}
 use Rattle.book.specs.declared.change.Change.TheVariants.{Starting, Stopping, Enter, Withdraw}
 use Rattle.book.specs.Changes.{own}
 use Rattle.book.specs.Matching.{some}
-use Rattle.book.specs.Numbers.{First}
 use Rattle.book.specs.Seating.{stays, stayers}
 use Rattle.book.specs.Sound.{not_of, owned, holds, other_port}
 use Rattle.book.proofs.Keeping.{same-is, same_self as number-self}
-use Rattle.rules.specs.Listings.{Listing, has, standing, accepts, changed, applied, Whole}
-use Rattle.rules.specs.Meanings.{Meaning, rejects, dead, changes, applies, welcomes, reports, carries, garbled, meaning}
+use Rattle.rules.specs.Listings.{Listing, has, standing, accepts, changed, Whole}
+use Rattle.rules.specs.Meanings.{Meaning, rejects, dead, changes, applies, welcomes, reports, carries, garbled}
 use Rattle.rules.specs.Registrar.{others, newcomer}
-use Rattle.rules.proofs.Books.{is, among, has_listed, listed_has, listed_was, listed_kept, listed_found, listed_there, one_with_number, stopped_was, stopped_stays, started_stays}
-use Rattle.rules.proofs.Lists.{some_here, some_found, kept_was, was_kept, some-entered}
+use Rattle.rules.proofs.Books.{among, has_listed, listed_has, listed_was, listed_kept, listed_found, listed_there, one_with_number, stopped_stays, started_stays}
+use Rattle.rules.proofs.Lists.{kept_was, was_kept, some-entered}
 
 -- the rule v is u
 abbrev pub is_rule : Rule → Rule → Bool

@@ -1,22 +1,21 @@
 -- The invariant of one port, call by call, and what it gives. Assumes nothing.
-use Rattle.std.proofs.Common.{◌≡◌, ℕ, suc, ◌+◌, ◌<◌, ◌≤◌, Bool, true, false, cond, not, ◌&&◌, ◌||◌, eqb, ◌⊎◌, List, [], ◌∷◌, ◌++◌, sym, refl, ap, ◌∙◌, subst, inl, inr, append_assoc, append-nil, arith}
-use Rattle.std.proofs.lemmas.Bool.{both_ways, eqb-true, eq-eqb, cond_both, cond-true, cond-false}
+use Rattle.std.proofs.Common.{◌≡◌, ℕ, suc, ◌<◌, Bool, true, false, cond, not, ◌||◌, eqb, ◌⊎◌, List, [], ◌∷◌, ◌++◌, sym, refl, ap, ◌∙◌, subst, inl, inr, append-nil, arith}
+use Rattle.std.proofs.lemmas.Bool.{both_ways, eqb-true, eq-eqb, cond-true, cond-false}
 use Rattle.words.specs.declared.applicant.Applicant.{Applicant}
 use Rattle.words.specs.declared.member.Member.{Member}
 use Rattle.words.specs.Records.{applicant_of, member_of, valid_member}
-use Rattle.book.specs.declared.change.Change.{Change}
-use Rattle.book.specs.declared.change.Change.TheVariants.{Starting, Stopping, Enter, Withdraw}
+use Rattle.book.specs.declared.change.Change.TheVariants.{Starting}
 use Rattle.book.specs.Matching.{some}
 use Rattle.rules.specs.declared.standing.Standing.{Standing}
 use Rattle.rules.specs.declared.standing.Standing.TheVariants.{Out, Asked, In}
-use Rattle.rules.specs.Listings.{Listing, blank, has, seated_at, changed, applied, Whole}
+use Rattle.rules.specs.Listings.{Listing, blank, has, seated_at, changed, Whole}
 use Rattle.rules.specs.Meanings.{Meaning, rejects, dead, changes, applies, welcomes, reports, carries, garbled, is_full, is_message}
 use Rattle.rules.specs.Ends.{Place, place, gone, reads, reading}
-use Rattle.rules.specs.Registrar.{Deed, idle, back, spread, admit, one_if, newcomer, deed, booked, told}
+use Rattle.rules.specs.Registrar.{one_if, newcomer, deed, booked, told}
 use Rattle.rules.specs.Promises.{Gives}
 use Rattle.rules.proofs.Books.{changed_whole, started_was}
-use Rattle.rules.proofs.Queries.{Asc, asc_drop, above_at, gather, gather-++, in_of, reg_of, ins, regs, Chain, chain_less_in, chain_less_reg, chain_register, chain_move}
-use Rattle.rules.proofs.Waits.{Harmless, Safe, Behind, Stands, AllMessages, ins-messages, stands_put, stands-messages, stands-drop, stands-append, behind_under, behind_quiet, behind_append, stands_receive, stays_all, Tied, tied_receive, tied_all, chain_receive}
+use Rattle.rules.proofs.Queries.{asc_drop, above_at, gather-++, in_of, reg_of, ins, regs, Chain, chain_less_in, chain_less_reg, chain_register, chain_move}
+use Rattle.rules.proofs.Waits.{Safe, Behind, Stands, AllMessages, ins-messages, stands_put, stands-messages, stands-drop, stands-append, behind_under, behind_quiet, behind_append, stands_receive, stays_all, Tied, tied_receive, tied_all, chain_receive}
 use Rattle.rules.proofs.Serving.{Telling, telling_nothing, tells_asked, tells_starting}
 use Rattle.rules.proofs.Agree.{Agrees, reading-++, reading-messages, reading-without, agrees_report, Inside, agrees_welcome}
 

@@ -1,6 +1,6 @@
 -- What waits at a port does not put its end out while the book has it there, and names the member that the book has
 -- there. First in, first out is needed here: what lies behind a welcome is read after it. Assumes nothing.
-use Rattle.std.proofs.Common.{◌≡◌, ℕ, suc, ◌+◌, ◌<◌, ◌≤◌, Bool, true, false, cond, not, ◌&&◌, ◌||◌, eqb, List, [], ◌∷◌, ◌++◌, sym, refl, ap, ◌∙◌, subst, append_assoc, arith}
+use Rattle.std.proofs.Common.{◌≡◌, ℕ, suc, ◌<◌, ◌≤◌, true, false, ◌&&◌, eqb, List, [], ◌∷◌, ◌++◌, sym, refl, ap, ◌∙◌, subst, append_assoc, arith}
 use Rattle.std.proofs.lemmas.Bool.{both_ways, eqb-true, and_parts, cond_both, cond-true, cond-false}
 use Rattle.words.specs.declared.member.Member.{Member}
 use Rattle.words.specs.Records.{member_of}
@@ -8,8 +8,8 @@ use Rattle.rules.specs.declared.standing.Standing.{Standing}
 use Rattle.rules.specs.declared.standing.Standing.TheVariants.{Out, Asked, In}
 use Rattle.rules.specs.Listings.{Listing, has}
 use Rattle.rules.specs.Meanings.{Meaning, rejects, dead, changes, applies, welcomes, reports, carries, garbled, is_message}
-use Rattle.rules.specs.Ends.{Place, place, answers, reads, reading}
-use Rattle.rules.proofs.Queries.{Above, Asc, asc_drop, above_at, in_of, ins, Chain, chain_squeeze}
+use Rattle.rules.specs.Ends.{Place, answers, reads, reading}
+use Rattle.rules.proofs.Queries.{Asc, asc_drop, above_at, in_of, ins, Chain, chain_squeeze}
 
 -- it does not put out the end that is w
 abbrev pub Harmless : Member → Meaning → Type 0

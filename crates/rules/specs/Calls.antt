@@ -12,11 +12,9 @@
 --     event s c n         the call with its answer, the frame it took and the frames it put
 --     after s c n         the state after it
 use Rattle.std.specs.Prelude.{◌≡◌, ℕ, suc, ◌-◌, Bool, true, false, cond, not, ◌&&◌, List, [], ◌∷◌, map, length, Some, None, Option, ◌==◌, nat_le, nat_lt, slice_index, slice_index_or}
-use Rattle.words.specs.declared.head.MessageHead.{MessageHead}
 use Rattle.words.specs.declared.member.Member.{Member}
 use Rattle.words.specs.declared.message_kind.MessageKind.{MessageKind}
 use Rattle.words.specs.declared.message_kind.MessageKind.TheVariants.{Published as PublishedKind, Announced as AnnouncedKind, Private as PrivateKind}
-use Rattle.words.specs.declared.rule.Rule.{Rule}
 use Rattle.words.specs.declared.rule_kind.RuleKind.{RuleKind}
 use Rattle.words.specs.declared.rule_kind.RuleKind.TheVariants.{Subscription, Invitation}
 use Rattle.words.specs.Heads.{head_of}
@@ -42,7 +40,7 @@ use Rattle.rules.specs.declared.standing.Standing.TheVariants.{Out, Asked, In}
 use Rattle.rules.specs.Codes.{lost_by}
 use Rattle.rules.specs.Listings.{Listing, blank, octets_of, seated_at}
 use Rattle.rules.specs.Meanings.{meaning}
-use Rattle.rules.specs.Ends.{Place, place, reads, received}
+use Rattle.rules.specs.Ends.{Place, reads, received}
 use Rattle.rules.specs.Registrar.{Deed, Numbered, deed, served, booked, last_given, Sending, sending, dispatch}
 use Rattle.rules.specs.Puts.{Put, offers, queued, reached_mask, missed_mask}
 

@@ -7,7 +7,7 @@
 --     taken_into               the buffer that a frame was taken into: it begins with the frame, the rest as it was;
 --                              as it was if the call was refused
 --     Built                    a buffer that was built in: past the longest frame as it was; all of it if refused
-use Rattle.std.specs.Prelude.{◌≡◌, ℕ, Bool, cond, List, ◌++◌, length, drop, Ok, Err, Result}
+use Rattle.std.specs.Prelude.{◌≡◌, ℕ, List, ◌++◌, length, drop, Ok, Err, Result}
 use Rattle.line.specs.Lines.{Rule as Fitting, Waiting, longest_frame}
 use Rattle.rules.specs.declared.answer.Answer.{Answer}
 use Rattle.rules.specs.declared.answer.Answer.TheVariants.{Refused}

@@ -8,7 +8,7 @@
 --     booked b d, last_given l d     book and last number given then
 --     told d m p            what the port p is told, m being what was served
 --     dispatch d t o        the frames that are put, and where, o being the octets that were served
-use Rattle.std.specs.Prelude.{ℕ, Bool, true, false, cond, List, [], ◌∷◌, map, filter, ◌==◌}
+use Rattle.std.specs.Prelude.{ℕ, Bool, cond, List, [], ◌∷◌, map, filter, ◌==◌}
 use Rattle.words.specs.declared.applicant.Applicant.{Applicant}
 use Rattle.words.specs.declared.member.Member.{Member}
 use Rattle.words.specs.declared.reason.Cause.TheVariants.{RuleListFull}

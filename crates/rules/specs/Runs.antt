@@ -6,7 +6,7 @@
 use Rattle.std.specs.Prelude.{◌≡◌, ℕ, ◌≤◌, []}
 use Rattle.rules.specs.declared.standing.Standing.TheVariants.{Out}
 use Rattle.rules.specs.Listings.{blank}
-use Rattle.rules.specs.Calls.{State, end, Call, Event, Given, event, after, last_query}
+use Rattle.rules.specs.Calls.{State, end, Event, Given, event, after, last_query}
 
 infixl 50 ◌▹◌
 pub data History : Type 0 where
