@@ -327,7 +327,8 @@ fn a_full_book_goes_to_octets_and_back(rt: HostRuntime) -> Result<(), Fail> {
         place: 0,
     };
     assert!(rt; !book.fill(&run), "octets that are no book");
-    check_same(&rt, heap, &book, words.as_slice()).note("the book is as it was")
+    // the book is as it was
+    check_same(&rt, heap, &book, words.as_slice())
 }
 
 #[test]
