@@ -4,7 +4,7 @@
 --     stands_so m ms      the member m stands exactly so
 --     addition ms us u    what adding the rule u answers
 --     added a vs us       the rules then: vs where it is new
-use Rattle.std.specs.Prelude.{ℕ, Bool, false, cond, ◌&&◌, ltb, List, [], ◌∷◌, length, Some, None, Option, ◌==◌, nat_lt}
+use Rattle.std.specs.Prelude.{ℕ, Bool, false, cond, ◌&&◌, List, [], ◌∷◌, length, Some, None, Option, ◌==◌, nat_lt}
 use Rattle.table.specs.Ordered.{looked_up, stands}
 use Rattle.words.specs.declared.member.Member.{Member}
 use Rattle.words.specs.declared.rule.Rule.{Rule}
@@ -26,7 +26,7 @@ just_so m None = false
 just_so m (Some n) = same_member n m
 
 abbrev pub stands_so : Member → List Member → Bool
-stands_so m ms = just_so m (looked_up ltb member_key m.number ms)
+stands_so m ms = just_so m (looked_up nat_lt member_key m.number ms)
 
 abbrev pub addition : List Member → List Rule → Rule → Addition
 addition ms us u =

@@ -11,7 +11,7 @@
 --     OrderLaw             members and rules are in the order of their words
 --     Examples              worked examples
 --     OctetsExample        a small book in octets
-use Rattle.std.specs.Prelude.{◌≡◌, ℕ, ◌+◌, ◌*◌, ◌<◌, true, false, ltb, ◌⊎◌, List, [], ◌∷◌, length, ◌≢◌, nat_lt, slice_index}
+use Rattle.std.specs.Prelude.{◌≡◌, ℕ, ◌+◌, ◌*◌, ◌<◌, true, false, ◌⊎◌, List, [], ◌∷◌, length, ◌≢◌, nat_lt, slice_index}
 use Rattle.table.specs.Ordered.{ascending}
 use Rattle.words.specs.declared.member.Member.{Member}
 use Rattle.words.specs.declared.rule.Rule.{Rule}
@@ -37,7 +37,7 @@ In x (y ∷ ys) = (x ≡ y) ⊎ In x ys
 pub record Recipients (ms : List Member) (us : List Rule) (a : Audience) (f : Sender) (s : ℕ) : Type 0 where
   pub asked : (m : Member) → In m (recipients ms us a f s) → In m ms × (in_audience a m ≡ true) × ((u : Rule) × In u us × (asks a f s m u ≡ true))
   pub served : (m : Member) (u : Rule) → In m ms → in_audience a m ≡ true → In u us → asks a f s m u ≡ true → In m (recipients ms us a f s)
-  pub once : ascending ltb member_key ms ≡ true → ascending ltb member_key (recipients ms us a f s) ≡ true
+  pub once : ascending nat_lt member_key ms ≡ true → ascending nat_lt member_key (recipients ms us a f s) ≡ true
 
 abbrev pub RecipientsLaw : Type 0
 RecipientsLaw = (ms : List Member) (us : List Rule) (a : Audience) (f : Sender) (s : ℕ) → Recipients ms us a f s
@@ -48,7 +48,7 @@ pub record Written (ms : List Member) (us : List Rule) : Type 0 where
   pub rules : rules_in (book_octets ms us) ≡ us
   pub long : length (book_octets ms us) ≡ 4 * (length ms + length us)
   pub small : (i : ℕ) → slice_index (book_octets ms us) i < 256
-  pub rising : ascending ltb (λ w. w) (book_words ms us) ≡ true
+  pub rising : ascending nat_lt (λ w. w) (book_words ms us) ≡ true
   pub has : (m : Member) → valid_member m ≡ true → has_word (book_octets ms us) (member_word m) ≡ stands_so m ms
 
 abbrev pub WordsBack : Type 0
@@ -69,7 +69,7 @@ pub record Standing (m : Member) (ms : List Member) : Type 0 where
   pub stands : In m ms → stands_so m ms ≡ true
 
 abbrev pub StandingLaw : Type 0
-StandingLaw = (m : Member) (ms : List Member) → ascending ltb member_key ms ≡ true → Standing m ms
+StandingLaw = (m : Member) (ms : List Member) → ascending nat_lt member_key ms ≡ true → Standing m ms
 
 pub record ChangesLaw : Type 0 where
   pub empty : Sound [] []
