@@ -5,7 +5,7 @@
 --     Call                the thirteen calls with their values; the length of each lent buffer stands last
 --     Outcome             what a call does: the answer, from what became of the frames it puts; the frame it takes;
 --                         the frames it puts; book, last number and ends then
---     X-checks, X-done    what the call X checks, in this order, and what it does if all of it holds
+--     X_checks, X_done    what the call X checks, in this order, and what it does if all of it holds
 --     judged s cs o       o, or the refusal of the first check of cs that fails, which changes nothing
 --     outcome s c n       what the call c does, n being the number that a served registration is given
 --     Given s c n         n is that number
