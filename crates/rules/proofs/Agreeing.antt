@@ -41,10 +41,10 @@ map-++ f [] b = refl
 map-++ f (x ∷ a) b = ap (λ m. f x ∷ m) (map-++ f a b)
 
 -- what a mapped list has at a place
-pub get_d_map : {A B : Type 0} (f : A → B) (xs : List A) (i : ℕ) (x : A) (y : B) → i < length xs → get_or (map f xs) i y ≡ f (get_or xs i x)
-get_d_map f [] i x y l = absurd (omega arith)
-get_d_map f (z ∷ xs) zero x y l = refl
-get_d_map f (z ∷ xs) (suc i) x y l = get_d_map f xs i x y (omega arith)
+pub get_or-map_within : {A B : Type 0} (f : A → B) (xs : List A) (i : ℕ) (x : A) (y : B) → i < length xs → get_or (map f xs) i y ≡ f (get_or xs i x)
+get_or-map_within f [] i x y l = absurd (omega arith)
+get_or-map_within f (z ∷ xs) zero x y l = refl
+get_or-map_within f (z ∷ xs) (suc i) x y l = get_or-map_within f xs i x y (omega arith)
 
 -- what a list has at a place is between what comes before and behind it
 pub split_at : {A : Type 0} (xs : List A) (i : ℕ) (x : A) → i < length xs → xs ≡ take i xs ++ (get_or xs i x ∷ drop (suc i) xs)
@@ -266,7 +266,7 @@ module _ (p : ℕ) (np : 1 ≤ p) where
 
       marked : eqb p q ≡ true → i < length (s.line q) → not (is_message (meaning o)) ≡ get_or m i false
       marked z l =
-          sym (ap (λ x. get_or x i false) (known ∙ ap (λ x. map (λ y. not (is_message (meaning y))) (s.line x)) (eqb-true p q z)) ∙ get_d_map (λ y. not (is_message (meaning y))) (s.line q) i [] false l)
+          sym (ap (λ x. get_or x i false) (known ∙ ap (λ x. map (λ y. not (is_message (meaning y))) (s.line x)) (eqb-true p q z)) ∙ get_or-map_within (λ y. not (is_message (meaning y))) (s.line q) i [] false l)
 
       goal_clean : (v : Bool) → eqb p q ≡ v → cond (v && get_or m i false) false d ≡ cleaned m (event_by s (lose q k) (lose_done s q k)) d
       goal_clean v z =
