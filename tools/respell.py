@@ -4,8 +4,9 @@
 usage: python3 tools/respell.py [--dry]      at the top of the repository, once, after /opt/rattle/port/port.py
 
 Types and facts go to upper camel case (In-step: InStep), all else to snake case (looked-up: looked_up). In a lemma's name
-a dash stays where it joins the names of two definitions (ascending-entered). Names that Rattle makes (answers to goals,
-steps of a function) keep their spelling. It stops, and writes nothing, where two names would fall together.
+a dash stays where it joins the names of two definitions of its crate or the crates below (ascending-entered). Names that
+Rattle makes (answers to goals, steps of a function) keep their spelling. It stops, and writes nothing, where two names would
+fall together.
 """
 
 import glob
@@ -14,14 +15,19 @@ import sys
 
 TOKEN = re.compile(r"[^\s(){}\[\],;.⌜⌝«»`|\"]+")
 DECL = re.compile(r"^(\s*)((?:(?:abbrev|unfoldable|pub|record|data)\s+)*)([^\s(){}\[\],;.:]+)(?=\s.*[:({])(.*)$")
+# names of definitions that are plain words in the name of a lemma
+PLAIN = {"is", "of", "self", "own", "one", "first", "four", "here", "some", "start", "short", "before", "after", "up", "total", "word", "header"}
+LIBRARY = {"length", "take", "drop", "map", "filter", "append", "insert", "remove", "set", "replicate", "reverse", "get_or"}
 NOT_NAMES = {"use", "module", "mod", "let", "in", "where", "elim", "unfolding", "open", "--", "λ", "ruleset"}
 
 
 def declared():
-    """Each own name with a dash, by its kind: 'type', 'word' (definitions and fields), 'lemma' or 'local'. And the names of all definitions."""
-    kinds, words, answers = {}, set(), set()
+    """Each own name with a dash, by its kind: 'type', 'word' (definitions and fields), 'lemma' or 'local'; the crates that
+    declare it; the names of each crate's definitions; and the answers to goals."""
+    kinds, homes, words, answers = {}, {}, {}, set()
     for p in sorted(glob.glob("crates/*/specs/*.antt") + glob.glob("crates/*/proofs/**/*.antt", recursive=True)):
         fields = None
+        crate = p.split("/")[1]
         for line in open(p, encoding="utf-8"):
             if line.lstrip().startswith("--"):
                 continue
@@ -40,11 +46,12 @@ def declared():
             if not marks and ":" not in rest:
                 continue
             if "abbrev" in marks or "unfoldable" in marks:
-                words.add(name)
+                words.setdefault(crate, set()).add(name.replace("-", "_"))
             if "-" not in name.strip("-"):
                 if "record" in marks:
                     fields = depth
                 continue
+            homes.setdefault(name, set()).add(crate)
             if name[0].isupper():
                 kinds[name] = "type"
             elif "abbrev" in marks or "unfoldable" in marks or fields is not None:
@@ -53,7 +60,21 @@ def declared():
                 kinds[name] = "lemma"
             if "record" in marks:
                 fields = depth
-    return kinds, words, answers
+    return kinds, homes, words, answers
+
+
+def below():
+    """Each crate with the crates that it stands on."""
+    lines = [line.split("#")[0].split(":") for line in open("crates.txt", encoding="utf-8") if ":" in line.split("#")[0]]
+    direct = {left.split()[0]: right.split() for left, right in lines}
+
+    def all_below(crate):
+        found = {crate}
+        for d in direct.get(crate, []):
+            found |= all_below(d)
+        return found
+
+    return {c: all_below(c) for c in direct}
 
 
 def spelled(name, kind, words):
@@ -63,7 +84,7 @@ def spelled(name, kind, words):
     if kind == "lemma":
         for i in range(1, len(parts)):
             left, right = "_".join(parts[:i]), "_".join(parts[i:])
-            if left in words and right in words or right == "++":
+            if right == "++" or left in words and right in words and not {left, right} & PLAIN:
                 return left + "-" + right
     return "_".join(parts)
 
@@ -88,10 +109,14 @@ def between_ticks(text, names):
 
 
 def main():
-    kinds, words, answers = declared()
-    library = {"length", "take", "drop", "map", "filter", "append", "insert", "remove", "set", "replicate", "reverse", "get_or"}
-    snake = {w.replace("-", "_") for w in words} | library
-    names = {n: spelled(n, k, snake) for n, k in kinds.items() if n not in answers}
+    kinds, homes, words, answers = declared()
+    under = below()
+
+    def words_of(name):
+        """The definitions that a lemma of this name can speak of."""
+        return LIBRARY.union(*(words.get(d, set()) for c in homes.get(name, ()) for d in under.get(c, {c})))
+
+    names = {n: spelled(n, k, words_of(n)) for n, k in kinds.items() if n not in answers}
     names = {n: m for n, m in names.items() if n != m}
     back = {}
     for n, m in sorted(names.items()):

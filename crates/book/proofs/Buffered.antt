@@ -4,7 +4,7 @@ use borrow.Rule.Slice.PartMut.{put_mid}
 use Rattle.std.proofs.lemmas.List.{append_assoc, drop_at, drop-drop, flat_map_more, length-append, length-take-le, take_all, take_at, take_more}
 use Rattle.words.specs.Words.{word_octets, words_octets}
 use Rattle.book.specs.Buffers.{at_start, word_over}
-use Rattle.book.proofs.Writing.{length-octets}
+use Rattle.book.proofs.Writing.{length_octets}
 
 -- a part of four octets was replaced
 pub part_written : (d ys : List ℕ) (at k w : ℕ) → ys ≡ word_octets w [] → k ≡ 4 → put_mid at k d ys ≡ word_over d at w
@@ -22,7 +22,7 @@ start_more d b xs ys n l e =
 -- one word more
 pub words_more : (d b ws : List ℕ) (k place w : ℕ) → k < length ws → place ≡ 4 * k → w ≡ get_or ws k 0 → b ≡ at_start (words_octets (take k ws)) d → word_over b place w ≡ at_start (words_octets (take (k + 1) ws)) d
 words_more d b ws k place w h p e g =
-    let n : length (words_octets (take k ws)) ≡ place = length-octets (take k ws) ∙ (ap (λ z. 4 * z) (length-take-le k ws (omega arith)) ∙ sym p) in
+    let n : length (words_octets (take k ws)) ≡ place = length_octets (take k ws) ∙ (ap (λ z. 4 * z) (length-take-le k ws (omega arith)) ∙ sym p) in
     let t : words_octets (take k ws) ++ word_octets w [] ≡ words_octets (take (k + 1) ws) = rw (e, take_more ws k 0 h) (flat_map_more (λ v. word_octets v []) [] (take k ws) (get_or ws k 0)) in
     start_more d b (words_octets (take k ws)) (word_octets w []) place n g ∙ ap (λ z. at_start z d) t
 
@@ -30,5 +30,5 @@ pub words_all : (d b ws : List ℕ) (k : ℕ) → k ≡ length ws → b ≡ at_s
 words_all d b ws k e g = g ∙ ap (λ z. at_start (words_octets z) d) (take_all k ws (omega arith))
 
 -- the octets at the start are those that were written
-pub start-taken : (xs b : List ℕ) → take (length xs) (at_start xs b) ≡ xs
-start-taken xs b = take_at xs (drop (length xs) b) (length xs) refl
+pub start_taken : (xs b : List ℕ) → take (length xs) (at_start xs b) ≡ xs
+start_taken xs b = take_at xs (drop (length xs) b) (length xs) refl

@@ -37,12 +37,12 @@ pub length_before : (xs : List ℕ) (k : ℕ) → length (words_before xs k) ≡
 length_before xs zero = refl
 length_before xs (suc k) = length_push (words_before xs k) (word_of xs k) ∙ (let h = length_before xs k in omega arith)
 
-pub word-before : (xs : List ℕ) (k i : ℕ) → i < k → get_or (words_before xs k) i 0 ≡ word_of xs i
-word-before xs zero i h = absurd (omega arith)
-word-before xs (suc k) i h =
+pub word_before : (xs : List ℕ) (k i : ℕ) → i < k → get_or (words_before xs k) i 0 ≡ word_of xs i
+word_before xs zero i h = absurd (omega arith)
+word_before xs (suc k) i h =
     let n = length_before xs k in
     ⊎_elim (λ (e : i ≡ k). get_or_push (words_before xs k) (word_of xs k) 0 i (omega arith) ∙ rw e)
-    (λ (e : i ≡ k → ⊥). get_or_append_left (words_before xs k) (word_of xs k ∷ []) 0 i (omega arith) ∙ word-before xs k i (omega arith))
+    (λ (e : i ≡ k → ⊥). get_or_append_left (words_before xs k) (word_of xs k ∷ []) 0 i (omega arith) ∙ word_before xs k i (omega arith))
     (cases_eq i k)
 
 module _ {A : Type 0} (p : ℕ → Bool) (f : ℕ → A) where

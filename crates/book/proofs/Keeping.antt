@@ -33,8 +33,8 @@ ports_kept p (m ∷ ms) h =
     (λ (q : p m ≡ false). rw q (ports_kept p ms a.1))
     (cases_Bool (p m))
 
-pub same-is : (k n : ℕ) → same ltb k n ≡ true → k ≡ n
-same-is k n h =
+pub same_is : (k n : ℕ) → same ltb k n ≡ true → k ≡ n
+same_is k n h =
     let a = and_parts (not (ltb k n)) (not (ltb n k)) h in
     let b = ltb-false k n (not-true _ a.0) in
     let c = ltb-false n k (not-true _ a.1) in
@@ -44,7 +44,7 @@ pub same_self : (k n : ℕ) → k ≡ n → same ltb k n ≡ true
 same_self k n e = and_from _ _ (not_from_false _ (le-ltb k n (omega arith))) (not_from_false _ (le-ltb n k (omega arith)))
 
 pub same_other : (k n : ℕ) → (k ≡ n → ⊥) → same ltb k n ≡ false
-same_other k n d = ⊎_elim (λ (q : same ltb k n ≡ true). absurd (d (same-is k n q))) (λ (q : same ltb k n ≡ false). q) (cases_Bool (same ltb k n))
+same_other k n d = ⊎_elim (λ (q : same ltb k n ≡ true). absurd (d (same_is k n q))) (λ (q : same ltb k n ≡ false). q) (cases_Bool (same ltb k n))
 
 -- a number that is not the one taken away is still held
 pub held_without : (k n : ℕ) (ms : List Member) → (k ≡ n → ⊥) → holds k ms ≡ true → holds k (without ltb member_key n ms) ≡ true
@@ -52,8 +52,8 @@ held_without k n [] d h = h
 held_without k n (m ∷ ms) d h =
     ⊎_elim
     (λ (q : same ltb k m.number ≡ true).
-    let e : k ≡ m.number = same-is k m.number q in
-    ⊎_elim (λ (s : same ltb n m.number ≡ true). let f : n ≡ m.number = same-is n m.number s in absurd (d (e ∙ sym f)))
+    let e : k ≡ m.number = same_is k m.number q in
+    ⊎_elim (λ (s : same ltb n m.number ≡ true). let f : n ≡ m.number = same_is n m.number s in absurd (d (e ∙ sym f)))
     (λ (s : same ltb n m.number ≡ false). rw (s, q))
     (cases_Bool (same ltb n m.number)))
     (λ (q : holds k ms ≡ true).
@@ -130,9 +130,9 @@ length-entered less key x (y ∷ xs) =
     (λ (q : less (key x) (key y) ≡ false). rw q (let h = length-entered less key x xs in omega arith))
     (cases_Bool (less (key x) (key y)))
 
-pub rule-entered : (ms : List Member) (us : List Rule) (u : Rule) → Sound ms us → valid_rule u ≡ true → holds u.number ms ≡ true
+pub rule_entered : (ms : List Member) (us : List Rule) (u : Rule) → Sound ms us → valid_rule u ≡ true → holds u.number ms ≡ true
     → stands rule_less rule_key (rule_key u) us ≡ false → length us < 200 → Sound ms (entered rule_less rule_key u us)
-rule-entered ms us u s h o a l = record {
+rule_entered ms us u s h o a l = record {
   numbers = s.numbers;
   rising = ascending-entered rule_order rule_key u us s.rising a;
   members_valid = s.members_valid;
@@ -156,6 +156,6 @@ new_rule us u e =
 
 pub rule_put : (ms : List Member) (us vs : List Rule) (r : Entry) (u : Rule) → Sound ms us → valid_rule u ≡ true → holds u.number ms ≡ true
     → r ≡ answer rule_less rule_key 200 u us → vs ≡ after r (entered rule_less rule_key u us) us → Sound ms vs
-rule_put ms us vs New u s h o e f = let n = new_rule us u e in sound_as ms ms (entered rule_less rule_key u us) vs refl f (rule-entered ms us u s h o n.0 n.1)
+rule_put ms us vs New u s h o e f = let n = new_rule us u e in sound_as ms ms (entered rule_less rule_key u us) vs refl f (rule_entered ms us u s h o n.0 n.1)
 rule_put ms us vs Standing u s h o e f = sound_as ms ms us vs refl f s
 rule_put ms us vs Full u s h o e f = sound_as ms ms us vs refl f s

@@ -17,9 +17,9 @@ use Rattle.book.specs.Laws.{In}
 use Rattle.book.specs.Octets.{book_octets, book_words, member_in, members_among, members_in, rule_in, rules_among, rules_in, words_before}
 use Rattle.book.specs.Sound.{Sound, each, holds, other_port, owned, ports_apart}
 use Rattle.book.proofs.Carried.{carried-each, carried_in, carried_no, carried_none, carried_pairs, carried_yes, each_push, length-carried}
-use Rattle.book.proofs.Fields.{member_first, member_of-word, numbers_rise, rule_of-word, rules_rise}
+use Rattle.book.proofs.Fields.{member_first, member_of_word, numbers_rise, rule_of_word, rules_rise}
 use Rattle.book.proofs.Keeping.{same_self}
-use Rattle.book.proofs.Membership.{has_some, stands-some}
+use Rattle.book.proofs.Membership.{has_some, stands_some}
 
 above_push : {A K : Type 0} (less : K → K → Bool) (key : A → K) (k : K) (xs : List A) (x : A) → above less key k xs ≡ true → less k (key x) ≡ true → above less key k (xs ++ (x ∷ [])) ≡ true
 above_push less key k [] x a h = and_from _ _ h refl
@@ -51,8 +51,8 @@ book_read xs b = record {
       (λ i j l h p q. numbers_rise (word_of xs i) (word_of xs j) p q (b.ascending i j l h) (b.seats i j l h p q).0);
   rising = carried_pairs is_rule rule_in (λ us. ascending rule_less rule_key us ≡ true) (λ x y. rule_less (rule_key x) (rule_key y)) refl (λ us u r h. ascending_push rule_less rule_key us u r h) xs (words_in xs)
       (λ i j l h p q. rules_rise (word_of xs i) (word_of xs j) p q (b.ascending i j l h));
-  members_valid = carried-each is_member member_in valid_member xs (words_in xs) (λ j l p. (member_of-word (word_of xs j) p).1);
-  rules_valid = carried-each is_rule rule_in valid_rule xs (words_in xs) (λ j l p. (rule_of-word (word_of xs j) p).1);
+  members_valid = carried-each is_member member_in valid_member xs (words_in xs) (λ j l p. (member_of_word (word_of xs j) p).1);
+  rules_valid = carried-each is_rule rule_in valid_rule xs (words_in xs) (λ j l p. (rule_of_word (word_of xs j) p).1);
   ports = carried_pairs is_member member_in (λ ms. ports_apart ms ≡ true) (λ x y. other_port x.port y) refl ports_push xs (words_in xs)
       (λ i j l h p q. not_from_false _ (ne_eqb _ _ (λ (e : tail_of (word_of xs j) ≡ tail_of (word_of xs i)). (b.seats i j l h p q).1 (sym e))));
   owners = carried-each is_rule rule_in (owned (members_in xs)) xs (words_in xs) (λ j l p.
@@ -68,7 +68,7 @@ read_sound xs h = book_read xs (sound_is_book xs h)
 
 -- and a member's word stands in it where the member does
 pub has_so : (xs : List ℕ) (m : Member) → book_sound xs ≡ true → valid_member m ≡ true → has_word xs (member_word m) ≡ stands_so m (members_in xs)
-has_so xs m h v = has_some xs m v ∙ sym (stands-some m (members_in xs) (read_sound xs h).numbers)
+has_so xs m h v = has_some xs m v ∙ sym (stands_some m (members_in xs) (read_sound xs h).numbers)
 
 put_member : (ms : List Member) (us : List Rule) (ws : List ℕ) (m : Member) (w : ℕ) → us ≡ [] → book_words ms us ≡ ws → member_word m ≡ w → book_words (ms ++ (m ∷ [])) us ≡ ws ++ (w ∷ [])
 put_member ms us ws m w n h e =
@@ -92,23 +92,23 @@ words_split xs b (suc k) l =
     ⊎_elim (λ (q : is_rule (word_of xs j) ≡ true). absurd (omega (arith, member_first (word_of xs j) w q p, b.ascending j k h (omega arith))))
     (λ (q : is_rule (word_of xs j) ≡ false). q)
     (cases_Bool (is_rule (word_of xs j)))) in
-    rw (carried_yes is_member member_in ws w p, carried_no is_rule rule_in ws w (member_no_rule w p)) (put_member (members_among ws) (rules_among ws) ws (member_in w) w none r (member_of-word w p).2))
+    rw (carried_yes is_member member_in ws w p, carried_no is_rule rule_in ws w (member_no_rule w p)) (put_member (members_among ws) (rules_among ws) ws (member_in w) w none r (member_of_word w p).2))
     (λ (p : is_rule w ≡ true).
-    rw (carried_no is_member member_in ws w (rule_no_member w p), carried_yes is_rule rule_in ws w p) (put_rule (members_among ws) (rules_among ws) ws (rule_in w) w r (rule_of-word w p).2))
+    rw (carried_no is_member member_in ws w (rule_no_member w p), carried_yes is_rule rule_in ws w p) (put_rule (members_among ws) (rules_among ws) ws (rule_in w) w r (rule_of_word w p).2))
     (b.each k (omega arith))
 
-take-four : (xs : List ℕ) (i : ℕ) → i + 3 < length xs → take (i + 4) xs ≡ take i xs ++ (get_or xs i 0 ∷ get_or xs (i + 1) 0 ∷ get_or xs (i + 2) 0 ∷ get_or xs (i + 3) 0 ∷ [])
-take-four [] i h = absurd (omega arith)
-take-four (a ∷ []) zero h = absurd (omega arith)
-take-four (a ∷ b ∷ []) zero h = absurd (omega arith)
-take-four (a ∷ b ∷ c ∷ []) zero h = absurd (omega arith)
-take-four (a ∷ b ∷ c ∷ d ∷ xs) zero h = refl
-take-four (x ∷ xs) (suc i) h =
+take_four : (xs : List ℕ) (i : ℕ) → i + 3 < length xs → take (i + 4) xs ≡ take i xs ++ (get_or xs i 0 ∷ get_or xs (i + 1) 0 ∷ get_or xs (i + 2) 0 ∷ get_or xs (i + 3) 0 ∷ [])
+take_four [] i h = absurd (omega arith)
+take_four (a ∷ []) zero h = absurd (omega arith)
+take_four (a ∷ b ∷ []) zero h = absurd (omega arith)
+take_four (a ∷ b ∷ c ∷ []) zero h = absurd (omega arith)
+take_four (a ∷ b ∷ c ∷ d ∷ xs) zero h = refl
+take_four (x ∷ xs) (suc i) h =
     let e1 : suc i + 1 ≡ suc (i + 1) = omega arith in
     let e2 : suc i + 2 ≡ suc (i + 2) = omega arith in
     let e3 : suc i + 3 ≡ suc (i + 3) = omega arith in
     let e4 : suc i + 4 ≡ suc (i + 4) = omega arith in
-    rw (e1, e2, e3, e4) (ap (λ ys. x ∷ ys) (take-four xs i (omega arith)))
+    rw (e1, e2, e3, e4) (ap (λ ys. x ∷ ys) (take_four xs i (omega arith)))
 
 four : (a b c d w : ℕ) → a < 256 → b < 256 → c < 256 → d < 256 → w ≡ a * 16777216 + b * 65536 + c * 256 + d → word_octets w [] ≡ a ∷ b ∷ c ∷ d ∷ []
 four a b c d w p q r s e =
@@ -125,7 +125,7 @@ octets_of_words xs o (suc k) l =
     let e : 4 * suc k ≡ 4 * k + 4 = omega arith in
     let r = octets_of_words xs o k (omega arith) in
     let f = four (get_or xs (4 * k) 0) (get_or xs (4 * k + 1) 0) (get_or xs (4 * k + 2) 0) (get_or xs (4 * k + 3) 0) (word_of xs k) (o _) (o _) (o _) (o _) refl in
-    sym (flat_map_more (λ w. word_octets w []) [] (words_before xs k) (word_of xs k)) ∙ (ap (λ ys. ys ++ word_octets (word_of xs k) []) r ∙ (ap (λ ys. take (4 * k) xs ++ ys) f ∙ rw e (sym (take-four xs (4 * k) (omega arith)))))
+    sym (flat_map_more (λ w. word_octets w []) [] (words_before xs k) (word_of xs k)) ∙ (ap (λ ys. ys ++ word_octets (word_of xs k) []) r ∙ (ap (λ ys. take (4 * k) xs ++ ys) f ∙ rw e (sym (take_four xs (4 * k) (omega arith)))))
 
 pub octets_back : (xs : List ℕ) → ((i : ℕ) → get_or xs i 0 < 256) → book_sound xs ≡ true → book_octets (members_in xs) (rules_in xs) ≡ xs
 octets_back xs o h =

@@ -12,7 +12,7 @@ use Rattle.book.specs.declared.change.Change.TheVariants.{Starting, Stopping, En
 use Rattle.book.specs.Asked.{addition}
 use Rattle.book.specs.Changes.{is_new, members_after, own, rules_after, taken}
 use Rattle.book.specs.Sound.{Sound, holds}
-use Rattle.book.proofs.Keeping.{member_gone, rule-entered, rules_gone}
+use Rattle.book.proofs.Keeping.{member_gone, rule_entered, rules_gone}
 use Rattle.book.proofs.Seating.{member_seated}
 
 addition_new : (a b c : Bool) → is_new (cond a (cond b Standing (cond c New Full)) Refused) ≡ true → (a ≡ true) × (b ≡ false) × (c ≡ true)
@@ -34,7 +34,7 @@ sound_kept ms us (Starting m) s t = member_seated m ms us s t
 sound_kept ms us (Stopping m) s t = member_gone ms us m.number s
 sound_kept ms us (Enter m u) s t =
     let n = rule_new ms us u (and_parts (own m ms u) _ t).1 in
-    rule-entered ms us u s n.0 n.1 n.2 n.3
+    rule_entered ms us u s n.0 n.1 n.2 n.3
 sound_kept ms us (Withdraw m u) s t = rules_gone ms us (λ v. not (same rule_less (rule_key u) (rule_key v))) s
 
 pub sound_empty : Sound [] []

@@ -1,7 +1,7 @@
 -- The laws of the book, from their parts. Assumes nothing.
 use Rattle.book.specs.Laws.{ChangesLaw, OrderLaw, StandingLaw, WordsBack, WordsForth}
 use Rattle.book.specs.Octets.{book_words}
-use Rattle.book.proofs.Membership.{in_stands, stands_in, stands-some}
+use Rattle.book.proofs.Membership.{in_stands, stands_in, stands_some}
 use Rattle.book.proofs.Orders.{member_words_order, rule_words_order}
 use Rattle.book.proofs.Reading.{has_so, octets_back, read_sound}
 use Rattle.book.proofs.Taken.{sound_empty, sound_kept}
@@ -22,7 +22,7 @@ pub words_forth : WordsForth
 words_forth xs h = record { sound = read_sound xs h; octets = λ o. octets_back xs o h; has = λ m v. has_so xs m h v }
 
 pub standing_law : StandingLaw
-standing_law m ms r = record { some = stands-some m ms r; within = stands_in m ms r; stands = in_stands m ms r }
+standing_law m ms r = record { some = stands_some m ms r; within = stands_in m ms r; stands = in_stands m ms r }
 
 pub changes_law : ChangesLaw
 changes_law = record { empty = sound_empty; keeps = sound_kept }

@@ -21,19 +21,19 @@ use Rattle.book.specs.Asked.{same_member, stands_so}
 use Rattle.book.specs.Matching.{some}
 use Rattle.book.specs.Octets.{book_octets, book_words, carried, member_in, members_among, members_in, rule_in, rules_among, rules_in, words_of}
 use Rattle.book.specs.Sound.{Sound, each, holds, other_port, owned, ports_apart}
-use Rattle.book.proofs.Carried.{carried-append, length_before, length-carried, word-before}
-use Rattle.book.proofs.Fields.{member_first, word_of_member, word_of-rule}
-use Rattle.book.proofs.Keeping.{same-is}
-use Rattle.book.proofs.Membership.{has_some, stands-some}
+use Rattle.book.proofs.Carried.{carried-append, length_before, length-carried, word_before}
+use Rattle.book.proofs.Fields.{member_first, word_of_member, word_of_rule}
+use Rattle.book.proofs.Keeping.{same_is}
+use Rattle.book.proofs.Membership.{has_some, stands_some}
 use Rattle.book.proofs.Orders.{ltb_order, member_ranges, member_words_order, rule_ranges, rule_words_order}
 
 -- a word has 32 bits
 abbrev short : ℕ → Bool
 short w = ltb w 4294967296
 
-pub length-octets : (ws : List ℕ) → length (words_octets ws) ≡ 4 * length ws
-length-octets [] = refl
-length-octets (w ∷ ws) = let h = length-octets ws in omega arith
+pub length_octets : (ws : List ℕ) → length (words_octets ws) ≡ 4 * length ws
+length_octets [] = refl
+length_octets (w ∷ ws) = let h = length_octets ws in omega arith
 
 -- each is an octet
 pub octet_small : (ws : List ℕ) (i : ℕ) → get_or (words_octets ws) i 0 < 256
@@ -66,9 +66,9 @@ word_written (w ∷ ws) (suc k) s l =
 pub words_written : (ws : List ℕ) → each short ws ≡ true → words_of (words_octets ws) ≡ ws
 words_written ws s =
     let xs = words_octets ws in
-    let n : words_in xs ≡ length ws = omega (arith, length-octets ws) in
+    let n : words_in xs ≡ length ws = omega (arith, length_octets ws) in
     let l = length_before xs (words_in xs) in
-    ext_get_or 0 (words_of xs) ws (omega arith) (λ i h. word-before xs (words_in xs) i (omega arith) ∙ word_written ws i s (omega arith))
+    ext_get_or 0 (words_of xs) ws (omega arith) (λ i h. word_before xs (words_in xs) i (omega arith) ∙ word_written ws i s (omega arith))
 
 each_append : {A : Type 0} (q : A → Bool) (xs ys : List A) → each q xs ≡ true → each q ys ≡ true → each q (xs ++ ys) ≡ true
 each_append q [] ys a b = b
@@ -106,13 +106,13 @@ carried_nothing valid g p f (x ∷ xs) h v =
 pub members_back : (ms : List Member) (us : List Rule) → each valid_member ms ≡ true → each valid_rule us ≡ true → members_among (book_words ms us) ≡ ms
 members_back ms us a b =
     let m = carried_all valid_member member_word is_member member_in ms word_of_member a in
-    let n = carried_nothing valid_rule rule_word is_member member_in us (λ u v. rule_no_member (rule_word u) (word_of-rule u v).0) b in
+    let n = carried_nothing valid_rule rule_word is_member member_in us (λ u v. rule_no_member (rule_word u) (word_of_rule u v).0) b in
     carried-append is_member member_in (map member_word ms) (map rule_word us) ∙ rw (m, n) (append-nil ms)
 
 pub rules_back : (ms : List Member) (us : List Rule) → each valid_member ms ≡ true → each valid_rule us ≡ true → rules_among (book_words ms us) ≡ us
 rules_back ms us a b =
     let m = carried_nothing valid_member member_word is_rule rule_in ms (λ m v. member_no_rule (member_word m) (word_of_member m v).0) a in
-    let n = carried_all valid_rule rule_word is_rule rule_in us word_of-rule b in
+    let n = carried_all valid_rule rule_word is_rule rule_in us word_of_rule b in
     carried-append is_rule rule_in (map member_word ms) (map rule_word us) ∙ rw (m, n)
 
 -- the words of things in order are in order
@@ -155,7 +155,7 @@ words_ascend ms us s =
     ascending-append (map member_word ms) (map rule_word us) a b
     (each_word valid_member member_word (λ w. above ltb (λ v. v) w (map rule_word us)) ms (λ m v.
     above-each (member_word m) (map rule_word us) (each_word valid_rule rule_word (λ w. ltb (member_word m) w) us (λ u w.
-    lt-ltb (member_word m) (rule_word u) (member_first (rule_word u) (member_word m) (word_of-rule u w).0 (word_of_member m v).0)) s.rules_valid)) s.members_valid)
+    lt-ltb (member_word m) (rule_word u) (member_first (rule_word u) (member_word m) (word_of_rule u w).0 (word_of_member m v).0)) s.rules_valid)) s.members_valid)
 
 nobody : Member
 nobody = member_of 0 0 0
@@ -177,7 +177,7 @@ ports_at (m ∷ ms) (suc i) (suc j) d p l h e = ports_at ms i j d (and_parts (ea
 holder_at : (n : ℕ) (ms : List Member) (d : Member) → holds n ms ≡ true → (i : ℕ) × (i < length ms) × ((get_or ms i d).number ≡ n)
 holder_at n [] d h = let z : ◌≡◌ {A = ℕ} 0 1 = cc in absurd (omega arith)
 holder_at n (m ∷ ms) d h =
-    ⊎_elim (λ (q : same ltb n m.number ≡ true). (0, omega arith, sym (same-is n m.number q)))
+    ⊎_elim (λ (q : same ltb n m.number ≡ true). (0, omega arith, sym (same_is n m.number q)))
     (λ (q : holds n ms ≡ true). let r = holder_at n ms d q in (suc r.0, omega (arith, r.1), r.2))
     (or_cases (same ltb n m.number) (holds n ms) h)
 
@@ -192,7 +192,7 @@ length_words ms us = length-append (map member_word ms) (map rule_word us) ∙ r
 
 -- four octets a word
 pub octets_long : (ms : List Member) (us : List Rule) → length (book_octets ms us) ≡ 4 * (length ms + length us)
-octets_long ms us = omega (arith, length-octets (book_words ms us), length_words ms us)
+octets_long ms us = omega (arith, length_octets (book_words ms us), length_words ms us)
 
 -- the words of the members stand first
 pub member_word_at : (ms : List Member) (us : List Rule) (i : ℕ) (d : Member) → i < length ms → get_or (book_words ms us) i 0 ≡ member_word (get_or ms i d)
@@ -200,19 +200,19 @@ member_word_at ms us i d l =
     let n = length-map ms member_word in
     get_or_append_left (map member_word ms) (map rule_word us) 0 i (omega arith) ∙ get_or-map member_word ms i d 0 l
 
-pub rule-word_at : (ms : List Member) (us : List Rule) (i : ℕ) (d : Rule) → length ms ≤ i → i < length ms + length us → get_or (book_words ms us) i 0 ≡ rule_word (get_or us (i - length ms) d)
-rule-word_at ms us i d l h = get_or-append_right (map member_word ms) (map rule_word us) (length ms) i 0 (length-map ms member_word) l ∙ get_or-map rule_word us (i - length ms) d 0 (omega arith)
+pub rule_word_at : (ms : List Member) (us : List Rule) (i : ℕ) (d : Rule) → length ms ≤ i → i < length ms + length us → get_or (book_words ms us) i 0 ≡ rule_word (get_or us (i - length ms) d)
+rule_word_at ms us i d l h = get_or-append_right (map member_word ms) (map rule_word us) (length ms) i 0 (length-map ms member_word) l ∙ get_or-map rule_word us (i - length ms) d 0 (omega arith)
 
 -- a book's octets, word by word
 module _ (ms : List Member) (us : List Rule) (s : Sound ms us) where
   whole : words_in (book_octets ms us) ≡ length ms + length us
-  whole = omega (arith, length-octets (book_words ms us), length_words ms us)
+  whole = omega (arith, length_octets (book_words ms us), length_words ms us)
 
   member_at : (i : ℕ) → i < length ms → word_of (book_octets ms us) i ≡ member_word (get_or ms i nobody)
   member_at i l = word_written (book_words ms us) i (words_short ms us s) (omega (arith, length_words ms us)) ∙ member_word_at ms us i nobody l
 
   rule_at : (i : ℕ) → length ms ≤ i → i < length ms + length us → word_of (book_octets ms us) i ≡ rule_word (get_or us (i - length ms) norule)
-  rule_at i l h = word_written (book_words ms us) i (words_short ms us s) (omega (arith, length_words ms us)) ∙ rule-word_at ms us i norule l h
+  rule_at i l h = word_written (book_words ms us) i (words_short ms us s) (omega (arith, length_words ms us)) ∙ rule_word_at ms us i norule l h
 
   pub members_again : members_in (book_octets ms us) ≡ ms
   members_again = ap members_among (words_written (book_words ms us) (words_short ms us s)) ∙ members_back ms us s.members_valid s.rules_valid
@@ -221,12 +221,12 @@ module _ (ms : List Member) (us : List Rule) (s : Sound ms us) where
   rules_again = ap rules_among (words_written (book_words ms us) (words_short ms us s)) ∙ rules_back ms us s.members_valid s.rules_valid
 
   -- a word that is a member's stands among the first
-  seat-of : (i : ℕ) → i < words_in (book_octets ms us) → is_member (word_of (book_octets ms us) i) ≡ true → i < length ms
-  seat-of i h p =
+  seat_of : (i : ℕ) → i < words_in (book_octets ms us) → is_member (word_of (book_octets ms us) i) ≡ true → i < length ms
+  seat_of i h p =
       ⊎_elim (λ (l : i < length ms). l)
       (λ (l : length ms ≤ i).
       let k : i - length ms < length us = omega (arith, whole) in
-      let r = (word_of-rule (get_or us (i - length ms) norule) (each_at valid_rule us (i - length ms) norule s.rules_valid k)).0 in
+      let r = (word_of_rule (get_or us (i - length ms) norule) (each_at valid_rule us (i - length ms) norule s.rules_valid k)).0 in
       let q : is_member (word_of (book_octets ms us) i) ≡ false = rw (rule_at i l (omega (arith, whole))) (rule_no_member (rule_word (get_or us (i - length ms) norule)) r) in
       absurd (both_ways _ q p))
       (cases_lt i (length ms))
@@ -234,7 +234,7 @@ module _ (ms : List Member) (us : List Rule) (s : Sound ms us) where
   seats_apart : (i j : ℕ) → i < j → j < words_in (book_octets ms us) → is_member (word_of (book_octets ms us) i) ≡ true → is_member (word_of (book_octets ms us) j) ≡ true
       → (number_of (word_of (book_octets ms us) i) ≡ number_of (word_of (book_octets ms us) j) → ⊥) × (tail_of (word_of (book_octets ms us) i) ≡ tail_of (word_of (book_octets ms us) j) → ⊥)
   seats_apart i j l h p q =
-      let b = seat-of j h q in
+      let b = seat_of j h q in
       let m = get_or ms i nobody in
       let n = get_or ms j nobody in
       let v = (word_of_member m (each_at valid_member ms i nobody s.members_valid (omega arith))).1 in
@@ -261,7 +261,7 @@ module _ (ms : List Member) (us : List Rule) (s : Sound ms us) where
       let l = place_of j p in
       let k : j - length ms < length us = omega (arith, whole) in
       let u = get_or us (j - length ms) norule in
-      let w = (word_of-rule u (each_at valid_rule us (j - length ms) norule s.rules_valid k)).1 in
+      let w = (word_of_rule u (each_at valid_rule us (j - length ms) norule s.rules_valid k)).1 in
       let o = holder_at u.number ms nobody (each_at (owned ms) us (j - length ms) norule s.owners k) in
       let v = word_of_member (get_or ms o.0 nobody) (each_at valid_member ms o.0 nobody s.members_valid o.1) in
       let a = member_at o.0 o.1 in
@@ -270,10 +270,10 @@ module _ (ms : List Member) (us : List Rule) (s : Sound ms us) where
 
   pub written_book : Book (book_octets ms us)
   written_book = record {
-    whole = omega (arith, length-octets (book_words ms us));
+    whole = omega (arith, length_octets (book_words ms us));
     each = λ k h.
         ⊎_elim (λ (l : k < length ms). inl (rw (member_at k l) (word_of_member (get_or ms k nobody) (each_at valid_member ms k nobody s.members_valid l)).0))
-        (λ (l : length ms ≤ k). inr (rw (rule_at k l (omega (arith, whole))) (word_of-rule (get_or us (k - length ms) norule) (each_at valid_rule us (k - length ms) norule s.rules_valid (omega (arith, whole)))).0))
+        (λ (l : length ms ≤ k). inr (rw (rule_at k l (omega (arith, whole))) (word_of_rule (get_or us (k - length ms) norule) (each_at valid_rule us (k - length ms) norule s.rules_valid (omega (arith, whole)))).0))
         (cases_lt k (length ms));
     ascending = λ i j l h.
         let t = rises ltb_order (λ w. w) (book_words ms us) i j 0 (words_ascend ms us s) l (omega (arith, whole, length_words ms us)) in
@@ -289,4 +289,4 @@ module _ (ms : List Member) (us : List Rule) (s : Sound ms us) where
 
   -- a member's word stands in the octets where the member stands in the book
   pub written_has : (m : Member) → valid_member m ≡ true → has_word (book_octets ms us) (member_word m) ≡ stands_so m ms
-  written_has m v = has_some (book_octets ms us) m v ∙ (ap (some (λ n. same_member n m)) members_again ∙ sym (stands-some m ms s.numbers))
+  written_has m v = has_some (book_octets ms us) m v ∙ (ap (some (λ n. same_member n m)) members_again ∙ sym (stands_some m ms s.numbers))

@@ -28,5 +28,5 @@ fits_parts rule w port n e =
     record { range = ranged port n p.0; ruled = p.1 }
 
 -- in range, the rule alone decides
-pub admits-is : (rule : Rule) (w : Waiting) (port n : ℕ) → in_range port n ≡ true → admits rule w port n ≡ rule (map length (w port)) n
-admits-is rule w port n e = ap (λ t. t && rule (map length (w port)) n) e
+pub admits_is : (rule : Rule) (w : Waiting) (port n : ℕ) → in_range port n ≡ true → admits rule w port n ≡ rule (map length (w port)) n
+admits_is rule w port n e = ap (λ t. t && rule (map length (w port)) n) e

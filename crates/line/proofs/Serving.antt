@@ -15,8 +15,8 @@ cond_at : (b : Bool) (v u : Waiting) (q : ℕ) → cond b v u q ≡ cond b (v q)
 cond_at true v u q = refl
 cond_at false v u q = refl
 
-offered-same : (rule : Rule) (w : Waiting) (p : ℕ) (f : List ℕ) → offered rule w p f p ≡ cond (admits rule w p (length f)) (w p ++ f ∷ []) (w p)
-offered-same rule w p f =
+offered_same : (rule : Rule) (w : Waiting) (p : ℕ) (f : List ℕ) → offered rule w p f p ≡ cond (admits rule w p (length f)) (w p ++ f ∷ []) (w p)
+offered_same rule w p f =
     cond_at (admits rule w p (length f)) (added w p f) w p
     ∙ ap (λ fs. cond (admits rule w p (length f)) fs (w p)) (at_same w p (w p ++ f ∷ []))
 
@@ -40,7 +40,7 @@ queued rule w (p ∷ ps) f e q =
     let last : stands q ps ≡ false = ap (λ x. stands x ps) same ∙ not-true (stands p ps) parts.0 in
     others rule v ps f q last
     ∙ ap v same
-    ∙ offered-same rule w p f
+    ∙ offered_same rule w p f
     ∙ ap (λ x. cond (admits rule w x (length f)) (w x ++ f ∷ []) (w x)) (sym same)
     ∙ ap (λ b. cond ((b || stands q ps) && admits rule w q (length f)) (w q ++ f ∷ []) (w q)) (sym (eq-eqb q p same)))
     (λ (other : q ≡ p → ⊥).

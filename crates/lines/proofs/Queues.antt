@@ -14,8 +14,8 @@ lengths_is q = lengths_cut (vec_items q.lengths) (vec_items q.octets) (omega ari
 pub count_is : (q : Queue) → length (map length (frames q)) ≡ vec_len q.lengths
 count_is q = let k = ap length (lengths_is q) in omega arith
 
-pub taken_up-is : (q : Queue) → taken_up (map length (frames q)) ≡ vec_len q.octets + overhead * vec_len q.lengths
-taken_up-is q = let t = taken_is (vec_items q.lengths) in let k = ap taken_up (lengths_is q) in omega arith
+pub taken_up_is : (q : Queue) → taken_up (map length (frames q)) ≡ vec_len q.octets + overhead * vec_len q.lengths
+taken_up_is q = let t = taken_is (vec_items q.lengths) in let k = ap taken_up (lengths_is q) in omega arith
 
 pub octets_low : (q : Queue) → vec_len q.octets ≤ port_octets
 octets_low q = let t = taken_is (vec_items q.lengths) in omega arith

@@ -51,10 +51,10 @@ cut_sized (n ∷ ns) bs e s =
     ((omega arith, omega arith), cut_sized ns (drop n bs) left p.1)
 
 -- where a frame begins, and how far it goes
-pub within-total : (ns : List ℕ) (i : ℕ) → i < length ns → total (take i ns) + slice_index ns i ≤ total ns
-within-total [] i h = absurd (omega arith)
-within-total (m ∷ ns) zero h = omega arith
-within-total (m ∷ ns) (suc i) h = omega (arith, within-total ns i (omega arith))
+pub within_total : (ns : List ℕ) (i : ℕ) → i < length ns → total (take i ns) + slice_index ns i ≤ total ns
+within_total [] i h = absurd (omega arith)
+within_total (m ∷ ns) zero h = omega arith
+within_total (m ∷ ns) (suc i) h = omega (arith, within_total ns i (omega arith))
 
 pub total_removed : (ns : List ℕ) (i : ℕ) → i < length ns → total (remove ns i) + slice_index ns i ≡ total ns
 total_removed [] i h = absurd (omega arith)
@@ -98,10 +98,10 @@ sized_at (m ∷ ns) zero h e =
     ltb-true 0 m (and_parts (nat_lt 0 m) (nat_le m longest_frame) p.0).0
 sized_at (m ∷ ns) (suc i) h e = sized_at ns i (omega arith) (and_parts (nat_lt 0 m && nat_le m longest_frame) (all_sized ns) e).1
 
-pub first-is : (ns bs : List ℕ) (i at x : ℕ) → i < length ns → total ns ≡ length bs → all_sized ns ≡ true → at ≡ total (take i ns)
+pub first_is : (ns bs : List ℕ) (i at x : ℕ) → i < length ns → total ns ≡ length bs → all_sized ns ≡ true → at ≡ total (take i ns)
     → x ≡ slice_index_or bs at x → Some x ≡ cond (nat_lt i (length (cut ns bs))) (Some (slice_index (slice_index_or (cut ns bs) i []) 0)) None
-first-is ns bs i at x h e s k r =
-    let within = within-total ns i h in
+first_is ns bs i at x h e s k r =
+    let within = within_total ns i h in
     let some = sized_at ns i h s in
     let read : x ≡ get_or bs at 0 = get_or_read bs at x (omega arith) r 0 in
     let here : get_or (slice_index_or (cut ns bs) i []) 0 0 ≡ get_or bs (total (take i ns) + 0) 0 = ap (λ f. slice_index f 0) (get_or-cut ns bs i h) ∙ get_or-take (slice_index ns i) (drop (total (take i ns)) bs) 0 0 some ∙ get_or-drop (total (take i ns)) bs 0 0 in

@@ -5,7 +5,7 @@ use Rattle.std.specs.List.{remove}
 use Rattle.std.proofs.lemmas.List.{length-map}
 use Rattle.std.proofs.lemmas.Bool.{and_parts, le-leb, leb-true, lt-ltb, ltb-true}
 use Rattle.line.specs.Lines.{Lawful, Sized, Waiting, admits, longest_frame}
-use Rattle.line.proofs.Admits.{admits-is, fits_parts, is_ranged}
+use Rattle.line.proofs.Admits.{admits_is, fits_parts, is_ranged}
 use Rattle.lines.specs.Cuts.{all_sized, total}
 use Rattle.lines.specs.Rules.{packed, slots, taken_up}
 use Rattle.lines.specs.Sizes.{overhead, port_octets, slot_count}
@@ -50,7 +50,7 @@ slots-packed w port n s e =
     let few = ltb-true (length (map length (w port))) slot_count f.ruled in
     let same = length-map (w port) length in
     let t = sized_taken (w port) s in
-    admits-is packed w port n (is_ranged port n r.within r.some r.short)
+    admits_is packed w port n (is_ranged port n r.within r.some r.short)
     ∙ le-leb (taken_up (map length (w port)) + (n + overhead)) port_octets (omega arith)
 
 pub packed_lawful : Lawful packed

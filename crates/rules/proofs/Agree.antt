@@ -13,7 +13,7 @@ use Rattle.rules.specs.declared.standing.Standing.TheVariants.{Out, Asked, In}
 use Rattle.rules.specs.Listings.{Listing, has, accepts, changed, Whole}
 use Rattle.rules.specs.Meanings.{Meaning, rejects, dead, changes, applies, welcomes, reports, carries, garbled, is_message}
 use Rattle.rules.specs.Ends.{Place, place, gone, names, answers, reads, reading}
-use Rattle.rules.proofs.Books.{one-at_port, stopped_was, started_was}
+use Rattle.rules.proofs.Books.{one_at_port, stopped_was, started_was}
 use Rattle.rules.proofs.Waits.{AllMessages}
 
 pub reading-++ : (p : ℕ) (e : Place) (a b : List Meaning) → reading p e (a ++ b) ≡ reading p (reading p e a) b
@@ -61,7 +61,7 @@ pub follows_stopping : (p : ℕ) (b : Listing) (w : Member) → Whole b → has 
 follows_stopping p b w s h = follows p b (Stopping w) h λ n r e.
     let k = stopped_was b w (member_of n r p) s h e in
     let other : w.number ≡ n → ⊥ = λ z. k.1 (sym z) in
-    let away : w.port ≡ p → ⊥ = λ z. other (ap (λ x. x.number) (one-at_port b s w (member_of n r p) h k.0 z)) in
+    let away : w.port ≡ p → ⊥ = λ z. other (ap (λ x. x.number) (one_at_port b s w (member_of n r p) h k.0 z)) in
     (k.0, or_from _ _ (ne_eqb _ _ other) (ne_eqb _ _ away))
 
 pub follows_starting : (p : ℕ) (b : Listing) (w : Member) → Whole b → valid_member w ≡ true → eqb p w.port ≡ false → Follows p b (changed b (Starting w)) (changes (Starting w))

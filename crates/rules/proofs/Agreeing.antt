@@ -32,7 +32,7 @@ use Rattle.rules.proofs.Dispatch.{Posted, deed_posted, few_sent, sent-mail, serv
 use Rattle.rules.proofs.Kept.{held, registering-carried, stopping-carried, requesting-carried, copy_carried, recipients_valid, written_at, reporting-carried}
 use Rattle.line.proofs.Masks.{in_none}
 use Rattle.rules.proofs.Proper.{Written, means, Proper, arrived_all, taken_there}
-use Rattle.rules.proofs.Putting.{sent, missed_at, sent_none, one_put, put_one, queued_at, queued_none, queued-one}
+use Rattle.rules.proofs.Putting.{sent, missed_at, sent_none, one_put, put_one, queued_at, queued_none, queued_one}
 use Rattle.rules.proofs.Queries.{reg_of}
 use Rattle.rules.proofs.Views.{Inv, Seats, inv_request, inv_register, inv_out, inv_messages, inv_report, inv_receive, inv_lose, inv_miss, inv_serve}
 
@@ -41,18 +41,18 @@ map-++ f [] b = refl
 map-++ f (x ∷ a) b = ap (λ m. f x ∷ m) (map-++ f a b)
 
 -- what a mapped list has at a place
-pub get_or-map_within : {A B : Type 0} (f : A → B) (xs : List A) (i : ℕ) (x : A) (y : B) → i < length xs → get_or (map f xs) i y ≡ f (get_or xs i x)
-get_or-map_within f [] i x y l = absurd (omega arith)
-get_or-map_within f (z ∷ xs) zero x y l = refl
-get_or-map_within f (z ∷ xs) (suc i) x y l = get_or-map_within f xs i x y (omega arith)
+pub get_or_map_within : {A B : Type 0} (f : A → B) (xs : List A) (i : ℕ) (x : A) (y : B) → i < length xs → get_or (map f xs) i y ≡ f (get_or xs i x)
+get_or_map_within f [] i x y l = absurd (omega arith)
+get_or_map_within f (z ∷ xs) zero x y l = refl
+get_or_map_within f (z ∷ xs) (suc i) x y l = get_or_map_within f xs i x y (omega arith)
 
 -- what a list has at a place is between what comes before and behind it
 pub split_at : {A : Type 0} (xs : List A) (i : ℕ) (x : A) → i < length xs → xs ≡ take i xs ++ (get_or xs i x ∷ drop (suc i) xs)
 split_at xs i x l = sym (take-append-drop i xs) ∙ ap (λ y. take i xs ++ y) (drop-cons xs i x l)
 
-pub some-map : {A B : Type 0} (g : B → Bool) (f : A → B) (a : List A) → some (λ x. g (f x)) a ≡ some g (map f a)
-some-map g f [] = refl
-some-map g f (x ∷ a) = ap (λ m. g (f x) || m) (some-map g f a)
+pub some_map : {A B : Type 0} (g : B → Bool) (f : A → B) (a : List A) → some (λ x. g (f x)) a ≡ some g (map f a)
+some_map g f [] = refl
+some_map g f (x ∷ a) = ap (λ m. g (f x) || m) (some_map g f a)
 
 pub and_false : (b : Bool) → (b && false) ≡ false
 and_false true = refl
@@ -266,7 +266,7 @@ module _ (p : ℕ) (np : 1 ≤ p) where
 
       marked : eqb p q ≡ true → i < length (s.line q) → not (is_message (meaning o)) ≡ get_or m i false
       marked z l =
-          sym (ap (λ x. get_or x i false) (known ∙ ap (λ x. map (λ y. not (is_message (meaning y))) (s.line x)) (eqb-true p q z)) ∙ get_or-map_within (λ y. not (is_message (meaning y))) (s.line q) i [] false l)
+          sym (ap (λ x. get_or x i false) (known ∙ ap (λ x. map (λ y. not (is_message (meaning y))) (s.line x)) (eqb-true p q z)) ∙ get_or_map_within (λ y. not (is_message (meaning y))) (s.line q) i [] false l)
 
       goal_clean : (v : Bool) → eqb p q ≡ v → cond (v && get_or m i false) false d ≡ cleaned m (event_by s (lose q k) (lose_done s q k)) d
       goal_clean v z =
@@ -331,7 +331,7 @@ module _ (p : ℕ) (np : 1 ≤ p) where
       fulls : (v : Bool) → map meaning (sent p xs) ≡ told dd (meaning o) p
           → cond v false (some is_full (told dd (meaning o) p) || d) ≡ cond (v || false) false (some (λ x. is_full (meaning x)) (cond v [] (sent p xs)) || d)
       fulls true e = refl
-      fulls false e = ap (λ x. x || d) (ap (some is_full) (sym e) ∙ sym (some-map is_full meaning (sent p xs)))
+      fulls false e = ap (λ x. x || d) (ap (some is_full) (sym e) ∙ sym (some_map is_full meaning (sent p xs)))
 
       finish : Posted t o dd
           → Inv p (booked s.book dd) (map meaning (remove (s.line 0) 0)) (cond left (map meaning (s.line p)) (map meaning (s.line p) ++ told dd (meaning o) p)) (place (s.ends p).standing (s.ends p).view) (s.ends p).next (cond left false (some is_full (told dd (meaning o) p) || d))
@@ -341,7 +341,7 @@ module _ (p : ℕ) (np : 1 ≤ p) where
           let tells : map meaning (sent p xs) ≡ told dd (meaning o) p = ap (map meaning) (sent-mail dd t o p post.whole) ∙ post.means_so p in
           let mask : in_mask (served_missed (served s.book (meaning o) (missed_mask ps))) p ≡ left = served_masked s.fitting w t o p s.book (meaning o) n post in
           move (ap (map meaning) (sym (queued_none s.fitting w xs 0 post.away)))
-          (lines left tells ∙ ap (map meaning) (sym (queued-one s.fitting w xs p few)))
+          (lines left tells ∙ ap (map meaning) (sym (queued_one s.fitting w xs p few)))
           (fulls left tells ∙ ap (λ x. cond (left || false) false (some (λ y. is_full (meaning y)) x || d)) (sym (one_put s.fitting w xs p few)) ∙ ap (λ x. cond (x || false) false (some (λ y. is_full (meaning y)) (arrived p ps) || d)) (sym mask))
           inv
 

@@ -12,10 +12,10 @@ use Rattle.book.specs.Matching.{some}
 use Rattle.book.specs.Seating.{stays, stayers}
 use Rattle.book.specs.Sound.{each, other_port, ports_apart}
 use Rattle.book.proofs.Keeping.{same_self as number-self, same_other}
-use Rattle.book.proofs.Membership.{stands-some}
+use Rattle.book.proofs.Membership.{stands_some}
 use Rattle.book.proofs.Taken.{sound_empty, sound_kept}
 use Rattle.rules.specs.Listings.{Listing, blank, has, seated_at, accepts, changed, applied, Whole}
-use Rattle.rules.proofs.Lists.{some_here, some_found, kept_was, was_kept, some-entered}
+use Rattle.rules.proofs.Lists.{some_here, some_found, kept_was, was_kept, some_entered}
 
 -- the member n is m
 abbrev pub is : Member → Member → Bool
@@ -95,10 +95,10 @@ number_once (m ∷ ms) h v w e f z = go (or_cases _ _ e) (or_cases _ _ f) (numbe
 
 -- to stand exactly so is to be one of the members
 pub has_listed : (b : Listing) → Whole b → (w : Member) → has w b ≡ true → among w b.members ≡ true
-has_listed b s w e = sym (stands-some w b.members s.numbers) ∙ e
+has_listed b s w e = sym (stands_some w b.members s.numbers) ∙ e
 
 pub listed_has : (b : Listing) → Whole b → (w : Member) → among w b.members ≡ true → has w b ≡ true
-listed_has b s w e = stands-some w b.members s.numbers ∙ e
+listed_has b s w e = stands_some w b.members s.numbers ∙ e
 
 pub blank_whole : Whole blank
 blank_whole = sound_empty
@@ -113,8 +113,8 @@ pub seated_by : (b : Listing) → Whole b → (w : Member) (p : ℕ) → has w b
 seated_by b s w p e h = listed_there (λ m. eqb m.port p) w b.members (has_listed b s w e) (eq-eqb w.port p h)
 
 -- a book has at most one member at a port, and one with a number
-pub one-at_port : (b : Listing) → Whole b → (v w : Member) → has v b ≡ true → has w b ≡ true → v.port ≡ w.port → v ≡ w
-one-at_port b s v w e f z = port_once b.members s.ports v w (has_listed b s v e) (has_listed b s w f) z
+pub one_at_port : (b : Listing) → Whole b → (v w : Member) → has v b ≡ true → has w b ≡ true → v.port ≡ w.port → v ≡ w
+one_at_port b s v w e f z = port_once b.members s.ports v w (has_listed b s v e) (has_listed b s w f) z
 
 pub one_with_number : (b : Listing) → Whole b → (v w : Member) → has v b ≡ true → has w b ≡ true → v.number ≡ w.number → v ≡ w
 one_with_number b s v w e f z = number_once b.members s.numbers v w (has_listed b s v e) (has_listed b s w f) z
@@ -136,7 +136,7 @@ pub started_was : (b : Listing) (w v : Member) → Whole b → valid_member w �
     → (v ≡ w) ⊎ ((has v b ≡ true) × (v.number ≡ w.number → ⊥) × (v.port ≡ w.port → ⊥))
 started_was b w v s h e =
     let d : Whole (changed b (Starting w)) = changed_whole b (Starting w) s h in
-    go (or_cases _ _ (sym (some-entered (is v) ltb member_key w (stayers w b.members)) ∙ has_listed (changed b (Starting w)) d v e))
+    go (or_cases _ _ (sym (some_entered (is v) ltb member_key w (stayers w b.members)) ∙ has_listed (changed b (Starting w)) d v e))
   where
     go : (is v w ≡ true) ⊎ (among v (stayers w b.members) ≡ true) → (v ≡ w) ⊎ ((has v b ≡ true) × (v.number ≡ w.number → ⊥) × (v.port ≡ w.port → ⊥))
     go (inl k) = inl (same_true v w k)
@@ -147,10 +147,10 @@ started_was b w v s h e =
 
 pub started_there : (b : Listing) (w : Member) → Whole b → valid_member w ≡ true → has w (changed b (Starting w)) ≡ true
 started_there b w s h =
-    listed_has (changed b (Starting w)) (changed_whole b (Starting w) s h) w (some-entered (is w) ltb member_key w (stayers w b.members) ∙ or_left _ _ (same_self w))
+    listed_has (changed b (Starting w)) (changed_whole b (Starting w) s h) w (some_entered (is w) ltb member_key w (stayers w b.members) ∙ or_left _ _ (same_self w))
 
 pub started_stays : (b : Listing) (w v : Member) → Whole b → valid_member w ≡ true → has v b ≡ true → (v.number ≡ w.number → ⊥) → (v.port ≡ w.port → ⊥) → has v (changed b (Starting w)) ≡ true
 started_stays b w v s h e d f =
     listed_has (changed b (Starting w)) (changed_whole b (Starting w) s h) v
-    (some-entered (is v) ltb member_key w (stayers w b.members)
+    (some_entered (is v) ltb member_key w (stayers w b.members)
     ∙ or_right _ _ (listed_kept (stays w) v b.members (has_listed b s v e) (and_from _ _ (not_from_false _ (ne_eqb _ _ d)) (not_from_false _ (ne_eqb _ _ f)))))

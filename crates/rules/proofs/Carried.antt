@@ -144,9 +144,9 @@ given_right ms l n f =
 pub seats_right : (q : ℕ) (a : Applicant) (l n : ℕ) (ms : List Member) → Sane (applies q a) → First ms l n → valid_member (newcomer a n) ≡ true
 seats_right q a l n ms h f = and_from _ _ (given_right ms l n f) (and_from _ _ h.1 h.2)
 
-pub welcome-carried : (t q : ℕ) (b : Listing) (w : Member) → Whole b → in_time t ≡ true → within 1 4294967295 q ≡ true → valid_member w ≡ true
+pub welcome_carried : (t q : ℕ) (b : Listing) (w : Member) → Whole b → in_time t ≡ true → within 1 4294967295 q ≡ true → valid_member w ≡ true
     → carried (you_are_in t q w (octets_of (changed b (Starting w)))) ≡ true
-welcome-carried t q b w s i h v =
+welcome_carried t q b w s i h v =
     let d : Listing = changed b (Starting w) in
     let k : Whole d = changed_whole b (Starting w) s v in
     and_from _ _ i (and_from _ _ h (and_from _ _ v (and_from _ _ (written_sound d.members d.rules k) (written_has d.members d.rules k w v ∙ started_there b w s v))))
@@ -154,7 +154,7 @@ welcome-carried t q b w s i h v =
 admit_sends : (b : Listing) (t q : ℕ) (w : Member) (o : List ℕ) → Whole b → in_time t ≡ true → within 1 4294967295 q ≡ true → valid_member w ≡ true → SendsWell t o (admit (changed b (Starting w)) w q)
 admit_sends b t q w o s i h v =
     let d : Listing = changed b (Starting w) in (
-      to_end w.port (you_are_in t q w (octets_of d)) (member_port w v) (welcome-carried t q b w s i h v),
+      to_end w.port (you_are_in t q w (octets_of d)) (member_port w v) (welcome_carried t q b w s i h v),
       each_mailable (write (i_am_starting t w)) (others w.port d.members) (written (i_am_starting t w) (and_from _ _ i v)) (each-others w.port d.members (changed_whole b (Starting w) s v).members_valid),
     )
 
@@ -170,15 +170,15 @@ deed_sends b t (reports v) l n o s i k h g = tt
 deed_sends b t (carries x y) l n o s i k h g = tt
 deed_sends b t (garbled e) l n o s i k h g = tt
 
-change-booked : (b : Listing) (t : ℕ) (c : Change) → Whole b → Whole (booked b (change_deed b t c))
-change-booked b t (Starting w) s = s
-change-booked b t (Stopping w) s = cond_both (has w b) _ _ (λ d. Whole (booked b d)) (λ e. applied_whole b (Stopping w) s) (λ e. s)
-change-booked b t (Enter w u) s =
+change_booked : (b : Listing) (t : ℕ) (c : Change) → Whole b → Whole (booked b (change_deed b t c))
+change_booked b t (Starting w) s = s
+change_booked b t (Stopping w) s = cond_both (has w b) _ _ (λ d. Whole (booked b d)) (λ e. applied_whole b (Stopping w) s) (λ e. s)
+change_booked b t (Enter w u) s =
     cond_both (has w b) _ _ (λ d. Whole (booked b d))
     (λ e. cond_both (accepts b (Enter w u)) _ _ (λ d. Whole (booked b d)) (λ z. applied_whole b (Enter w u) s)
     (λ z. cond_both (standing u b) _ _ (λ d. Whole (booked b d)) (λ y. s) (λ y. s)))
     (λ e. s)
-change-booked b t (Withdraw w u) s =
+change_booked b t (Withdraw w u) s =
     cond_both (has w b) _ _ (λ d. Whole (booked b d))
     (λ e. cond_both (accepts b (Withdraw w u)) _ _ (λ d. Whole (booked b d)) (λ z. applied_whole b (Withdraw w u) s) (λ z. s))
     (λ e. s)
@@ -186,7 +186,7 @@ change-booked b t (Withdraw w u) s =
 pub deed-booked : (b : Listing) (t : ℕ) (m : Meaning) (n : ℕ) → Whole b → Whole (booked b (deed b t m n))
 deed-booked b t (rejects f y) n s = s
 deed-booked b t (dead m) n s = s
-deed-booked b t (changes c) n s = change-booked b t c s
+deed-booked b t (changes c) n s = change_booked b t c s
 deed-booked b t (applies q a) n s = applied_whole b (Starting (newcomer a n)) s
 deed-booked b t (welcomes q m v) n s = s
 deed-booked b t (reports v) n s = s

@@ -23,7 +23,7 @@ use Rattle.rules.specs.Registrar.{Deed, idle, back, spread, admit, others, Numbe
 use Rattle.line.specs.Laws.{in_mask}
 use Rattle.rules.specs.Puts.{offers, missed_mask}
 use Rattle.rules.proofs.Books.{applied_whole, changed_whole}
-use Rattle.rules.proofs.Carried.{Sane, seats_right, welcome-carried, member_parts, module_small, module_right, low_part, high_part}
+use Rattle.rules.proofs.Carried.{Sane, seats_right, welcome_carried, member_parts, module_small, module_right, low_part, high_part}
 use Rattle.line.proofs.Masks.{in_none}
 use Rattle.rules.proofs.Proper.{means}
 use Rattle.rules.proofs.Putting.{Few, sent, missed_at, missed-in_mask}
@@ -202,7 +202,7 @@ posted_admit t o q b w s i h v =
     let k : Whole d = changed_whole b (Starting w) s v in
     record {
       whole = k;
-      means_so = told_admit t o q d w k (welcome-carried t q b w s i h v) (and_from _ _ i v);
+      means_so = told_admit t o q d w k (welcome_carried t q b w s i h v) (and_from _ _ i v);
       ports = and_from _ _ (port_small w v).0 (ports_each (write (i_am_starting t w)) (others w.port d.members) (each_kept valid_member (other_port w.port) d.members k.members_valid));
       away = sent-mail (admit d w q) t o 0 k ∙ cond-false (eqb 0 w.port) _ _ (port_small w v).1 ∙ ap (λ x. one_if x (write (i_am_starting t w))) (none_at_zero d.members k.members_valid);
       official = λ p. cond_both (eqb p w.port) _ _ (All (λ m. is_message m ≡ false)) (λ e. (refl, tt)) (λ e. all_if (seated_at p d) (changes (Starting w)) refl);

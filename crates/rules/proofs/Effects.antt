@@ -83,8 +83,8 @@ told_serve s t a b n ok g k = go (served_way s.book t (meaning o) s.last n (miss
     go (inl x) = inl x
     go (inr x) = inr (record { port = 0; place = 0; octets = o }, refl, x.1, x.0)
 
-told-after : (s : State) (c : Call) (n : ℕ) → Proper s → Given s c n → Told s (event s c n) (after s c n).book
-told-after s c n ok g =
+told_after : (s : State) (c : Call) (n : ℕ) → Proper s → Given s c n → Told s (event s c n) (after s c n).book
+told_after s c n ok g =
     each_call s n (λ x o. Told s (event_by s x o) o.book) (λ x r. inl (not_one, refl)) (record {
       registers = λ q r t b y. inl (not_one, refl);
       unregisters = λ q t b y. inl (not_one, refl);
@@ -120,19 +120,19 @@ up_more s e d ok (inr x) u w h nw ne =
     ends (inr y) = inr (y.0, y.1, serving e _ x.0 x.3 x.1 y.2, y.3)
 
 -- the call that entered it
-up-entered : (s : State) (e : Event) (d : Listing) → Proper s → Told s e d → (u : Rule) (w : Member) → Enters e w u → Up u w d
-up-entered s e d ok (inl x) u w h = absurd (x.0 h.code)
-up-entered s e d ok (inr x) u w h = entered-stands s.book d (meaning x.0.octets) ok.book x.2 w u (taken_is e _ x.0 h x.1)
+up_entered : (s : State) (e : Event) (d : Listing) → Proper s → Told s e d → (u : Rule) (w : Member) → Enters e w u → Up u w d
+up_entered s e d ok (inl x) u w h = absurd (x.0 h.code)
+up_entered s e d ok (inr x) u w h = entered-stands s.book d (meaning x.0.octets) ok.book x.2 w u (taken_is e _ x.0 h x.1)
 
 -- the call that led from s to t
-told-step : (s : State) (e : Event) (t : State) (h : History) → Reached s h → (p : Step s e t) → Told s e t.book
-told-step s e t h past p =
-    subst (λ (u : State). Told s e u.book) (sym p.becomes) (subst (λ (x : Event). Told s x (after s e.call p.number).book) (sym p.happens) (told-after s e.call p.number (proper h s past) p.given))
+told_step : (s : State) (e : Event) (t : State) (h : History) → Reached s h → (p : Step s e t) → Told s e t.book
+told_step s e t h past p =
+    subst (λ (u : State). Told s e u.book) (sym p.becomes) (subst (λ (x : Event). Told s x (after s e.call p.number).book) (sym p.happens) (told_after s e.call p.number (proper h s past) p.given))
 
 stands_since : (u : Rule) (w : Member) (before : History) (e : Event) (l : History) → Enters e w u → Every (λ x. (Withdraws x u → ⊥) × (Ends x w → ⊥)) l → (s : State) → Reached s ((before ▹ e) ▸▸ l) → Up u w s.book
-stands_since u w before e begin h k t past = up-entered past.0 e t.book (proper before past.0 past.1) (told-step past.0 e t before past.1 past.2) u w h
+stands_since u w before e begin h k t past = up_entered past.0 e t.book (proper before past.0 past.1) (told_step past.0 e t before past.1 past.2) u w h
 stands_since u w before e (l ▹ x) h k t past =
-    up_more past.0 x t.book (proper ((before ▹ e) ▸▸ l) past.0 past.1) (told-step past.0 x t ((before ▹ e) ▸▸ l) past.1 past.2) u w
+    up_more past.0 x t.book (proper ((before ▹ e) ▸▸ l) past.0 past.1) (told_step past.0 x t ((before ▹ e) ▸▸ l) past.1 past.2) u w
     (stands_since u w before e l h k.0 past.0 past.1) k.1.0 k.1.1
 
 -- the entry of a rule that stands, with its member, who stands too
@@ -196,7 +196,7 @@ go_on s e t h u ok (inr x) st ih = by (came_from s.book t.book (meaning x.0.octe
 
 found : (u : Rule) (h : History) (s : State) → Reached s h → standing u s.book ≡ true → Found u h s
 found u begin s past st = absurd (both_ways false refl (sym (ap (standing u) past.no_book) ∙ st))
-found u (h ▹ e) t past st = go_on past.0 e t h u (proper h past.0 past.1) (told-step past.0 e t h past.1 past.2) st (found u h past.0 past.1)
+found u (h ▹ e) t past st = go_on past.0 e t h u (proper h past.0 past.1) (told_step past.0 e t h past.1 past.2) st (found u h past.0 past.1)
 
 pub rules_stand : RulesStand
 rules_stand h s past = record {

@@ -68,17 +68,17 @@ proper_unregister s p t b h k =
     (to_registrar (stopping s p t) (stopping-carried s p t b h k) refl, tt)
 
 -- a rule of the member's own number
-own-rule : (kind : RuleKind) (t : ℕ) (w : Member) (r x : ℕ) → in_time t ≡ true → valid_member w ≡ true → leb r 255 ≡ true → leb x 4095 ≡ true → same_kind kind kind ≡ true
+own_rule : (kind : RuleKind) (t : ℕ) (w : Member) (r x : ℕ) → in_time t ≡ true → valid_member w ≡ true → leb r 255 ≡ true → leb x 4095 ≡ true → same_kind kind kind ≡ true
     → change_carried kind (record { time = t; member = w; rule = rule_of kind w.number r x }) ≡ true
-own-rule kind t w r x i v a b e =
+own_rule kind t w r x i v a b e =
     and_from _ _ i (and_from _ _ v (and_from _ _ (and_from _ _ (member_parts w v).0 (and_from _ _ a b)) (and_from _ _ e (eq-eqb w.number w.number refl))))
 
 request_carried : (k : Request) (t : ℕ) (w : Member) (r x : ℕ) → in_time t ≡ true → valid_member w ≡ true → leb r 255 ≡ true → leb x 4095 ≡ true
     → carried (request_frame k (record { time = t; member = w; rule = rule_of (kind_asked k) w.number r x })) ≡ true
-request_carried Subscribe t w r x i v a b = own-rule Subscription t w r x i v a b refl
-request_carried Unsubscribe t w r x i v a b = own-rule Subscription t w r x i v a b refl
-request_carried Invite t w r x i v a b = own-rule Invitation t w r x i v a b refl
-request_carried Disinvite t w r x i v a b = own-rule Invitation t w r x i v a b refl
+request_carried Subscribe t w r x i v a b = own_rule Subscription t w r x i v a b refl
+request_carried Unsubscribe t w r x i v a b = own_rule Subscription t w r x i v a b refl
+request_carried Invite t w r x i v a b = own_rule Invitation t w r x i v a b refl
+request_carried Disinvite t w r x i v a b = own_rule Invitation t w r x i v a b refl
 
 pub request_plain : (k : Request) (c : RuleChange) → is_message (said (request_frame k c)) ≡ false
 request_plain Subscribe c = refl

@@ -38,13 +38,13 @@ settle f (copy o lost ∷ cs) k = copy o lost ∷ settle f cs k
 settle f (copy o waits ∷ cs) zero = copy o f ∷ cs
 settle f (copy o waits ∷ cs) (suc k) = copy o waits ∷ settle f cs k
 
-settle-octets : (f : Fate) (cs : List Copy) (k : ℕ) → octets_in (settle f cs k) ≡ octets_in cs
-settle-octets f [] k = refl
-settle-octets f (copy o handed ∷ cs) k = ap (λ m. o ∷ m) (settle-octets f cs k)
-settle-octets f (copy o turned ∷ cs) k = ap (λ m. o ∷ m) (settle-octets f cs k)
-settle-octets f (copy o lost ∷ cs) k = ap (λ m. o ∷ m) (settle-octets f cs k)
-settle-octets f (copy o waits ∷ cs) zero = refl
-settle-octets f (copy o waits ∷ cs) (suc k) = ap (λ m. o ∷ m) (settle-octets f cs k)
+settle_octets : (f : Fate) (cs : List Copy) (k : ℕ) → octets_in (settle f cs k) ≡ octets_in cs
+settle_octets f [] k = refl
+settle_octets f (copy o handed ∷ cs) k = ap (λ m. o ∷ m) (settle_octets f cs k)
+settle_octets f (copy o turned ∷ cs) k = ap (λ m. o ∷ m) (settle_octets f cs k)
+settle_octets f (copy o lost ∷ cs) k = ap (λ m. o ∷ m) (settle_octets f cs k)
+settle_octets f (copy o waits ∷ cs) zero = refl
+settle_octets f (copy o waits ∷ cs) (suc k) = ap (λ m. o ∷ m) (settle_octets f cs k)
 
 settle_waits : (f : Fate) → is_waiting f ≡ false → (cs : List Copy) (k : ℕ) → pick is_waiting (settle f cs k) ≡ less (pick is_waiting cs) k
 settle_waits f n [] k = refl
@@ -80,24 +80,24 @@ none_such t h (copy o waits ∷ cs) e = go (t waits) refl (none_such t h cs e)
     go false z ih = ih
 
 -- the oldest that waits is the last that is read
-settle-first : (t : Fate → Bool) (f : Fate) → t f ≡ true → ((g : Fate) → t g ≡ true → is_read g ≡ true) → (cs : List Copy) (x : Octets) (ws : List Octets) → Ordered cs → pick is_waiting cs ≡ x ∷ ws → pick t (settle f cs 0) ≡ pick t cs ++ (x ∷ [])
-settle-first t f n h [] x ws d e = cc
-settle-first t f n h (copy o handed ∷ cs) x ws d e = go (t handed) (settle-first t f n h cs x ws d e)
+settle_first : (t : Fate → Bool) (f : Fate) → t f ≡ true → ((g : Fate) → t g ≡ true → is_read g ≡ true) → (cs : List Copy) (x : Octets) (ws : List Octets) → Ordered cs → pick is_waiting cs ≡ x ∷ ws → pick t (settle f cs 0) ≡ pick t cs ++ (x ∷ [])
+settle_first t f n h [] x ws d e = cc
+settle_first t f n h (copy o handed ∷ cs) x ws d e = go (t handed) (settle_first t f n h cs x ws d e)
   where
     go : (v : Bool) → pick t (settle f cs 0) ≡ pick t cs ++ (x ∷ []) → cond v (o ∷ pick t (settle f cs 0)) (pick t (settle f cs 0)) ≡ cond v (o ∷ pick t cs) (pick t cs) ++ (x ∷ [])
     go true ih = ap (λ m. o ∷ m) ih
     go false ih = ih
-settle-first t f n h (copy o turned ∷ cs) x ws d e = go (t turned) (settle-first t f n h cs x ws d e)
+settle_first t f n h (copy o turned ∷ cs) x ws d e = go (t turned) (settle_first t f n h cs x ws d e)
   where
     go : (v : Bool) → pick t (settle f cs 0) ≡ pick t cs ++ (x ∷ []) → cond v (o ∷ pick t (settle f cs 0)) (pick t (settle f cs 0)) ≡ cond v (o ∷ pick t cs) (pick t cs) ++ (x ∷ [])
     go true ih = ap (λ m. o ∷ m) ih
     go false ih = ih
-settle-first t f n h (copy o lost ∷ cs) x ws d e = go (t lost) (settle-first t f n h cs x ws d e)
+settle_first t f n h (copy o lost ∷ cs) x ws d e = go (t lost) (settle_first t f n h cs x ws d e)
   where
     go : (v : Bool) → pick t (settle f cs 0) ≡ pick t cs ++ (x ∷ []) → cond v (o ∷ pick t (settle f cs 0)) (pick t (settle f cs 0)) ≡ cond v (o ∷ pick t cs) (pick t cs) ++ (x ∷ [])
     go true ih = ap (λ m. o ∷ m) ih
     go false ih = ih
-settle-first t f n h (copy o waits ∷ cs) x ws d e =
+settle_first t f n h (copy o waits ∷ cs) x ws d e =
     let none : pick t cs ≡ [] = none_such t h cs d in
     let same : o ≡ x = cc in
     let left : cond (t f) (o ∷ pick t cs) (pick t cs) ≡ o ∷ [] = ap (λ b. cond b (o ∷ pick t cs) (pick t cs)) n ∙ ap (λ m. o ∷ m) none in
@@ -146,9 +146,9 @@ abbrev fresh : List Octets → List Copy
 fresh [] = []
 fresh (o ∷ os) = copy o waits ∷ fresh os
 
-fresh-octets : (os : List Octets) → octets_in (fresh os) ≡ os
-fresh-octets [] = refl
-fresh-octets (o ∷ os) = ap (λ m. o ∷ m) (fresh-octets os)
+fresh_octets : (os : List Octets) → octets_in (fresh os) ≡ os
+fresh_octets [] = refl
+fresh_octets (o ∷ os) = ap (λ m. o ∷ m) (fresh_octets os)
 
 fresh-pick : (t : Fate → Bool) → t waits ≡ false → (os : List Octets) → pick t (fresh os) ≡ []
 fresh-pick t w [] = refl
@@ -191,7 +191,7 @@ module _ (xs hs ts : List Octets) (n : ℕ) (ws : List Octets) (l : Ledger xs hs
   ledger_put os = record {
     copies = l.copies ++ fresh os;
     ordered = ordered_fresh l.copies os l.ordered;
-    all = octets-++ l.copies (fresh os) ∙ ap (λ m. m ++ octets_in (fresh os)) l.all ∙ ap (λ m. xs ++ m) (fresh-octets os);
+    all = octets-++ l.copies (fresh os) ∙ ap (λ m. m ++ octets_in (fresh os)) l.all ∙ ap (λ m. xs ++ m) (fresh_octets os);
     over = pick-++ is_handed l.copies (fresh os) ∙ ap (λ m. pick is_handed l.copies ++ m) (fresh-pick is_handed refl os) ∙ append-nil _ ∙ l.over;
     aside = pick-++ is_turned l.copies (fresh os) ∙ ap (λ m. pick is_turned l.copies ++ m) (fresh-pick is_turned refl os) ∙ append-nil _ ∙ l.aside;
     gone = ap length (pick-++ is_lost l.copies (fresh os) ∙ ap (λ m. pick is_lost l.copies ++ m) (fresh-pick is_lost refl os) ∙ append-nil _) ∙ l.gone;
@@ -214,8 +214,8 @@ module _ (xs hs ts : List Octets) (n : ℕ) (ws : List Octets) (l : Ledger xs hs
   ledger_hand o rest e = record {
     copies = settle handed l.copies 0;
     ordered = ordered_handed l.copies l.ordered;
-    all = settle-octets handed l.copies 0 ∙ l.all;
-    over = settle-first is_handed handed refl handed-read l.copies o rest l.ordered (l.still ∙ e) ∙ ap (λ m. m ++ (o ∷ [])) l.over;
+    all = settle_octets handed l.copies 0 ∙ l.all;
+    over = settle_first is_handed handed refl handed-read l.copies o rest l.ordered (l.still ∙ e) ∙ ap (λ m. m ++ (o ∷ [])) l.over;
     aside = settle_other is_turned handed refl refl l.copies 0 ∙ l.aside;
     gone = ap length (settle_other is_lost handed refl refl l.copies 0) ∙ l.gone;
     still = settle_waits handed refl l.copies 0 ∙ ap (λ m. less m 0) (l.still ∙ e);
@@ -225,9 +225,9 @@ module _ (xs hs ts : List Octets) (n : ℕ) (ws : List Octets) (l : Ledger xs hs
   ledger_turn o rest e = record {
     copies = settle turned l.copies 0;
     ordered = ordered_turned l.copies l.ordered;
-    all = settle-octets turned l.copies 0 ∙ l.all;
+    all = settle_octets turned l.copies 0 ∙ l.all;
     over = settle_other is_handed turned refl refl l.copies 0 ∙ l.over;
-    aside = settle-first is_turned turned refl turned_read l.copies o rest l.ordered (l.still ∙ e) ∙ ap (λ m. m ++ (o ∷ [])) l.aside;
+    aside = settle_first is_turned turned refl turned_read l.copies o rest l.ordered (l.still ∙ e) ∙ ap (λ m. m ++ (o ∷ [])) l.aside;
     gone = ap length (settle_other is_lost turned refl refl l.copies 0) ∙ l.gone;
     still = settle_waits turned refl l.copies 0 ∙ ap (λ m. less m 0) (l.still ∙ e);
   }
@@ -236,7 +236,7 @@ module _ (xs hs ts : List Octets) (n : ℕ) (ws : List Octets) (l : Ledger xs hs
   ledger_lose k h = record {
     copies = settle lost l.copies k;
     ordered = ordered_lost l.copies k l.ordered;
-    all = settle-octets lost l.copies k ∙ l.all;
+    all = settle_octets lost l.copies k ∙ l.all;
     over = settle_other is_handed lost refl refl l.copies k ∙ l.over;
     aside = settle_other is_turned lost refl refl l.copies k ∙ l.aside;
     gone = settle_count l.copies k (subst (λ m. k < length m) (sym l.still) h) ∙ ap (λ m. m + 1) l.gone;

@@ -45,9 +45,9 @@ module _ {A : Type 0} (eq : A → A → Bool) (sound : (v w : A) → eq v w ≡ 
       go false t (inl k) ih = absurd (both_ways (g x) t (subst (λ (y : A). g y ≡ true) (sound w x k) h))
       go false t (inr k) ih = ih k h
 
-pub some-entered : {A K : Type 0} (f : A → Bool) (less : K → K → Bool) (key : A → K) (x : A) (xs : List A) → some f (entered less key x xs) ≡ (f x || some f xs)
-some-entered f less key x [] = refl
-some-entered f less key x (y ∷ ys) = go (less (key x) (key y)) (some-entered f less key x ys)
+pub some_entered : {A K : Type 0} (f : A → Bool) (less : K → K → Bool) (key : A → K) (x : A) (xs : List A) → some f (entered less key x xs) ≡ (f x || some f xs)
+some_entered f less key x [] = refl
+some_entered f less key x (y ∷ ys) = go (less (key x) (key y)) (some_entered f less key x ys)
   where
     swap : (a b c : Bool) → a || (b || c) ≡ b || (a || c)
     swap true true c = refl

@@ -103,9 +103,9 @@ one_put rule w (x ∷ xs) p e = go (eqb p x.port) e (one_put rule (offered rule 
         last (offer rule w x).fitted z (none_put rule (offered rule w x.port x.octets) xs p z)
     go false h ih = ih h ∙ ap (λ b. cond b [] (sent p xs)) (sym (only (offer rule w x).fitted))
 
-pub queued-one : (rule : Rule) (w : Waiting) (xs : List Sending) (p : ℕ) → Few (sent p xs)
+pub queued_one : (rule : Rule) (w : Waiting) (xs : List Sending) (p : ℕ) → Few (sent p xs)
     → queued rule w xs p ≡ cond (missed_at p (offers rule w xs)) (w p) (w p ++ sent p xs)
-queued-one rule w xs p h = queued_at rule w xs p ∙ ap (λ z. w p ++ z) (one_put rule w xs p h) ∙ go (missed_at p (offers rule w xs))
+queued_one rule w xs p h = queued_at rule w xs p ∙ ap (λ z. w p ++ z) (one_put rule w xs p h) ∙ go (missed_at p (offers rule w xs))
   where
     go : (v : Bool) → w p ++ cond v [] (sent p xs) ≡ cond v (w p) (w p ++ sent p xs)
     go true = append-nil (w p)

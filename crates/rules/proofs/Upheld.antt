@@ -16,12 +16,12 @@ use Rattle.book.specs.Changes.{own}
 use Rattle.book.specs.Matching.{some}
 use Rattle.book.specs.Seating.{stays, stayers}
 use Rattle.book.specs.Sound.{not_of, owned, holds, other_port}
-use Rattle.book.proofs.Keeping.{same-is, same_self as number-self}
+use Rattle.book.proofs.Keeping.{same_is, same_self as number-self}
 use Rattle.rules.specs.Listings.{Listing, has, standing, accepts, changed, Whole}
 use Rattle.rules.specs.Meanings.{Meaning, rejects, dead, changes, applies, welcomes, reports, carries, garbled}
 use Rattle.rules.specs.Registrar.{others, newcomer}
 use Rattle.rules.proofs.Books.{among, has_listed, listed_has, listed_was, listed_kept, listed_found, listed_there, one_with_number, stopped_stays, started_stays}
-use Rattle.rules.proofs.Lists.{kept_was, was_kept, some-entered}
+use Rattle.rules.proofs.Lists.{kept_was, was_kept, some_entered}
 
 -- the rule v is u
 abbrev pub is_rule : Rule → Rule → Bool
@@ -40,17 +40,17 @@ rule_true u v e =
     let c = kind_is u.kind v.kind (ap (λ (x : RuleKey). x.kind) k) in
     λ i. record { kind = c i; number = (k i).number; role = (k i).role; subject = (k i).subject }
 
-pub rule-self : (u : Rule) → is_rule u u ≡ true
-rule-self u = and_from _ _ (not_from_false _ (rule_order.irreflexive (rule_key u))) (not_from_false _ (rule_order.irreflexive (rule_key u)))
+pub rule_self : (u : Rule) → is_rule u u ≡ true
+rule_self u = and_from _ _ (not_from_false _ (rule_order.irreflexive (rule_key u))) (not_from_false _ (rule_order.irreflexive (rule_key u)))
 
 rule_was : (g : Rule → Bool) (u : Rule) (us : List Rule) → some (is_rule u) (filter g us) ≡ true → (some (is_rule u) us ≡ true) × (g u ≡ true)
-rule_was = kept_was is_rule rule_true rule-self
+rule_was = kept_was is_rule rule_true rule_self
 
 rule_kept : (g : Rule → Bool) (u : Rule) (us : List Rule) → some (is_rule u) us ≡ true → g u ≡ true → some (is_rule u) (filter g us) ≡ true
-rule_kept = was_kept is_rule rule_true rule-self
+rule_kept = was_kept is_rule rule_true rule_self
 
-stands-some : (u : Rule) (b : Listing) → standing u b ≡ some (is_rule u) b.rules
-stands-some u b = refl
+stands_some : (u : Rule) (b : Listing) → standing u b ≡ some (is_rule u) b.rules
+stands_some u b = refl
 
 -- what a serve with code 1 did to the book b, having taken what says m
 pub data Did (b d : Listing) (m : Meaning) : Type 0 where
@@ -95,8 +95,8 @@ EndsBy m w = (m ≡ changes (Stopping w)) ⊎ ((q : ℕ) × (a : Applicant) × (
 abbrev WithdrawsBy : Meaning → Rule → Type 0
 WithdrawsBy m u = (w : Member) × (m ≡ changes (Withdraw w u))
 
-number_of-own : (b : Listing) (w : Member) (u : Rule) → accepts b (Enter w u) ≡ true → u.number ≡ w.number
-number_of-own b w u t =
+number_of_own : (b : Listing) (w : Member) (u : Rule) → accepts b (Enter w u) ≡ true → u.number ≡ w.number
+number_of_own b w u t =
     let a = and_parts (own w b.members u) _ t in
     eqb-true u.number w.number (and_parts (has w b) (eqb u.number w.number) a.0).1
 
@@ -110,7 +110,7 @@ free_of b a n w s h d f z =
 pub stays_up : (b d : Listing) (m : Meaning) → Whole b → Did b d m → (u : Rule) (w : Member) → standing u b ≡ true → has w b ≡ true → u.number ≡ w.number
     → (WithdrawsBy m u → ⊥) → (EndsBy m w → ⊥) → (standing u d ≡ true) × (has w d ≡ true)
 stays_up b d m s (entered v r e h t z) u w st k n nw ne =
-    (ap (standing u) z ∙ some-entered (is_rule u) rule_less rule_key r b.rules ∙ or_right _ _ st, ap (has w) z ∙ k)
+    (ap (standing u) z ∙ some_entered (is_rule u) rule_less rule_key r b.rules ∙ or_right _ _ st, ap (has w) z ∙ k)
 stays_up b d m s (withdrew v r e h t z) u w st k n nw ne =
     (ap (standing u) z ∙ rule_kept (λ y. not (same rule_less (rule_key r) (rule_key y))) u b.rules st (other (is_rule r u) refl), ap (has w) z ∙ k)
   where
@@ -133,12 +133,12 @@ Came b d m u = ((w : Member) × (m ≡ changes (Enter w u)) × (has w d ≡ true
     ⊎ ((standing u b ≡ true) × (WithdrawsBy m u → ⊥) × ((w : Member) → has w b ≡ true → u.number ≡ w.number → (EndsBy m w → ⊥) × (has w d ≡ true)))
 
 pub came_from : (b d : Listing) (m : Meaning) → Whole b → Did b d m → (u : Rule) → standing u d ≡ true → Came b d m u
-came_from b d m s (entered v r e h t z) u st = go (or_cases _ _ (sym (some-entered (is_rule u) rule_less rule_key r b.rules) ∙ ap (standing u) (sym z) ∙ st))
+came_from b d m s (entered v r e h t z) u st = go (or_cases _ _ (sym (some_entered (is_rule u) rule_less rule_key r b.rules) ∙ ap (standing u) (sym z) ∙ st))
   where
     go : (is_rule u r ≡ true) ⊎ (standing u b ≡ true) → Came b d m u
     go (inl y) =
         let same_rule : u ≡ r = rule_true u r y in
-        inl (v, e ∙ ap (λ (x : Rule). changes (Enter v x)) (sym same_rule), ap (has v) z ∙ h, ap (λ (x : Rule). x.number) same_rule ∙ number_of-own b v r t)
+        inl (v, e ∙ ap (λ (x : Rule). changes (Enter v x)) (sym same_rule), ap (has v) z ∙ h, ap (λ (x : Rule). x.number) same_rule ∙ number_of_own b v r t)
     go (inr y) = inr (y, λ x. apart m _ _ e x.1 (λ c. omega arith), λ w k n. (λ x. never x, ap (has w) z ∙ k))
       where
         never : {w : Member} → EndsBy m w → ⊥
@@ -146,7 +146,7 @@ came_from b d m s (entered v r e h t z) u st = go (or_cases _ _ (sym (some-enter
         never (inr x) = apart m _ _ e x.2 (λ c. omega arith)
 came_from b d m s (withdrew v r e h t z) u st =
     let k = rule_was (λ y. not (same rule_less (rule_key r) (rule_key y))) u b.rules (ap (standing u) (sym z) ∙ st) in
-    inr (k.0, λ x. both_ways (is_rule r u) (not-true _ k.1) (ap (λ (y : Rule). is_rule r y) (withdraw_rule x.0 v u r (sym x.1 ∙ e)) ∙ rule-self r), λ w l n. (λ x. never x, ap (has w) z ∙ l))
+    inr (k.0, λ x. both_ways (is_rule r u) (not-true _ k.1) (ap (λ (y : Rule). is_rule r y) (withdraw_rule x.0 v u r (sym x.1 ∙ e)) ∙ rule_self r), λ w l n. (λ x. never x, ap (has w) z ∙ l))
   where
     never : {w : Member} → EndsBy m w → ⊥
     never (inl x) = apart m _ _ e x (λ c. omega arith)
@@ -165,7 +165,7 @@ came_from b d m s (seated q a j e ok free z) u st =
     let f = listed_found (λ x. same ltb u.number (member_key x)) (stayers new b.members) k.1 in
     let g = listed_was (stays new) f.0 b.members f.1 in
     let i = and_parts (not (eqb f.0.number j)) (not (eqb f.0.port a.port)) g.1 in
-    let num : u.number ≡ f.0.number = same-is u.number f.0.number f.2 in
+    let num : u.number ≡ f.0.number = same_is u.number f.0.number f.2 in
     inr (
       k.0,
       λ x. apart m _ _ e x.1 (λ c. omega arith),
@@ -185,9 +185,9 @@ pub entered-stands : (b d : Listing) (m : Meaning) → Whole b → Did b d m →
 entered-stands b d m s (entered v r e h t z) w u f =
     let same_rule : u ≡ r = enter_rule w v u r (sym f ∙ e) in
     let same_member : w ≡ v = enter_member (sym f ∙ e) in (
-      ap (λ (x : Rule). standing x d) same_rule ∙ ap (standing r) z ∙ some-entered (is_rule r) rule_less rule_key r b.rules ∙ or_left _ _ (rule-self r),
+      ap (λ (x : Rule). standing x d) same_rule ∙ ap (standing r) z ∙ some_entered (is_rule r) rule_less rule_key r b.rules ∙ or_left _ _ (rule_self r),
       ap (λ (x : Member). has x d) same_member ∙ ap (has v) z ∙ h,
-      ap (λ (x : Rule). x.number) same_rule ∙ number_of-own b v r t ∙ ap (λ (x : Member). x.number) (sym same_member),
+      ap (λ (x : Rule). x.number) same_rule ∙ number_of_own b v r t ∙ ap (λ (x : Member). x.number) (sym same_member),
     )
   where
     enter_member : changes (Enter w u) ≡ changes (Enter v r) → w ≡ v

@@ -80,9 +80,9 @@ written_read xs v o e = (both xs v o e).0
 pub read-carried : ReadCarried
 read-carried xs v o e = (both xs v o e).1
 
-pub read-is_message : (xs : List ℕ) → 128 ≤ octet xs 0 → read xs ≡ read_message xs
+pub read_is_message : (xs : List ℕ) → 128 ≤ octet xs 0 → read xs ≡ read_message xs
 unfolding read
-read-is_message xs h = rw (le-ltb (octet xs 0) 128 h)
+read_is_message xs h = rw (le-ltb (octet xs 0) 128 h)
 
 pub read_is_meta : (xs : List ℕ) → octet xs 0 < 128 → read xs ≡ read_meta xs
 unfolding read

@@ -49,9 +49,9 @@ octets_of h a b c d p q r s xs =
 pub first_of : (h l : ℕ) → h < 256 → l < 4294967296 → (h * 4294967296 + l) / 4294967296 % 256 ≡ h
 first_of h l p q = omega arith
 
-pub word-octets_of : (a b c d : ℕ) → a < 256 → b < 256 → c < 256 → d < 256 → (xs : List ℕ)
+pub word_octets_of : (a b c d : ℕ) → a < 256 → b < 256 → c < 256 → d < 256 → (xs : List ℕ)
     → word_octets (a * 16777216 + b * 65536 + c * 256 + d) xs ≡ a ∷ b ∷ c ∷ d ∷ xs
-word-octets_of a b c d p q r s xs =
+word_octets_of a b c d p q r s xs =
     let w = a * 16777216 + b * 65536 + c * 256 + d in
     let e0 : w / 16777216 % 256 ≡ a = omega arith in
     let e1 : w / 65536 % 256 ≡ b = omega arith in
@@ -67,14 +67,14 @@ word_split [] h l = absurd (omega arith)
 word_split (a ∷ []) h l = absurd (omega arith)
 word_split (a ∷ b ∷ []) h l = absurd (omega arith)
 word_split (a ∷ b ∷ c ∷ []) h l = absurd (omega arith)
-word_split (a ∷ b ∷ c ∷ d ∷ xs) h l = word-octets_of a b c d (h 0) (h 1) (h 2) (h 3) xs
+word_split (a ∷ b ∷ c ∷ d ∷ xs) h l = word_octets_of a b c d (h 0) (h 1) (h 2) (h 3) xs
 
-drop-octets : (n : ℕ) (xs : List ℕ) → Octets xs → Octets (drop n xs)
-drop-octets n xs o i = rw get_or-drop (o (n + i))
+drop_octets : (n : ℕ) (xs : List ℕ) → Octets xs → Octets (drop n xs)
+drop_octets n xs o i = rw get_or-drop (o (n + i))
 
 -- the word at a place, and what follows it
 pub word_then : (xs : List ℕ) (i : ℕ) → Octets xs → i + 4 ≤ length xs → word_octets (word_at xs i) (drop (i + 4) xs) ≡ drop i xs
-word_then xs i o l = simp (get_or-drop, drop-drop, add-zero) at (word_split (drop i xs) (drop-octets i xs o) (rw length-drop (omega arith)))
+word_then xs i o l = simp (get_or-drop, drop-drop, add-zero) at (word_split (drop i xs) (drop_octets i xs o) (rw length-drop (omega arith)))
 
 -- the last word
 pub word_last : (xs : List ℕ) (i : ℕ) → Octets xs → length xs ≡ i + 4 → word_octets (word_at xs i) [] ≡ drop i xs

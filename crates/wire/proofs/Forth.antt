@@ -69,26 +69,26 @@ dead_back t m v =
     let i = some_if (is_module (id_of m)) (module_in (id_of m)) m (module_trip.back m p.1) in
     meta_back YouAreDead 0 (id_of m) t [] refl (omega arith) (id_fits m p.1) (tick t p.0) ∙ rw (i.0, i.1)
 
-same_kind-is : (a b : RuleKind) → same_kind a b ≡ true → a ≡ b
-same_kind-is Subscription Subscription e = refl
-same_kind-is Subscription Invitation e = let z : ◌≡◌ {A = ℕ} 0 1 = cc in absurd (omega arith)
-same_kind-is Invitation Subscription e = let z : ◌≡◌ {A = ℕ} 0 1 = cc in absurd (omega arith)
-same_kind-is Invitation Invitation e = refl
+same_kind_is : (a b : RuleKind) → same_kind a b ≡ true → a ≡ b
+same_kind_is Subscription Subscription e = refl
+same_kind_is Subscription Invitation e = let z : ◌≡◌ {A = ℕ} 0 1 = cc in absurd (omega arith)
+same_kind_is Invitation Subscription e = let z : ◌≡◌ {A = ℕ} 0 1 = cc in absurd (omega arith)
+same_kind_is Invitation Invitation e = refl
 
 abbrev own_header : MetaType → RuleChange → Header
 own_header j c = header j c.member.role (id_of (module_of c.member)) c.time
 
 -- a rule of either kind, entered or withdrawn
-change-read : (k : RuleKind) (j : MetaType) (c : RuleChange) → change_carried k c ≡ true
+change_read : (k : RuleKind) (j : MetaType) (c : RuleChange) → change_carried k c ≡ true
     → read_change k (header_octets (own_header j c) 8 (change_data c)) (own_header j c) ≡ Ok c
-change-read k j c v =
+change_read k j c v =
     let m = c.member in
     let u = c.rule in
     let p = and_parts (in_time c.time) _ v in
     let q = and_parts (valid_member m) _ p.1 in
     let r = and_parts (valid_rule u) _ q.1 in
     let s = and_parts (same_kind u.kind k) _ r.1 in
-    simp (word_back (member_word m) (member_fits m q.0), word_back (rule_word u) (rule_fits u r.0), member_trip.back m 18 q.0, (rule_trip k).back u 22 (same_kind-is u.kind k s.0, r.0))
+    simp (word_back (member_word m) (member_fits m q.0), word_back (rule_word u) (rule_fits u r.0), member_trip.back m 18 q.0, (rule_trip k).back u 22 (same_kind_is u.kind k s.0, r.0))
     (simp (s.1, eq-eqb m.role m.role refl, eq-eqb (id_of (module_of m)) (id_of (module_of m)) refl))
 
 change_back : (k : RuleKind) (j : MetaType) (c : RuleChange) → change_carried k c ≡ true → length_right j 8 ≡ true
@@ -179,15 +179,15 @@ message_back h b v =
 pub read_written : ReadWritten
 read_written (rejection t f y) v = rejection_back t f y v
 read_written (you_are_dead t m) v = dead_back t m v
-read_written (invite c) v = change_back Invitation Invite c v refl ∙ rw (change-read Invitation Invite c v)
-read_written (disinvite c) v = change_back Invitation Disinvite c v refl ∙ rw (change-read Invitation Disinvite c v)
+read_written (invite c) v = change_back Invitation Invite c v refl ∙ rw (change_read Invitation Invite c v)
+read_written (disinvite c) v = change_back Invitation Disinvite c v refl ∙ rw (change_read Invitation Disinvite c v)
 read_written (module_registration t q a) v = registration_back t q a v
 read_written (you_are_in t q m b) v = in_back t q m b v
 read_written (i_am_starting t m) v =
     let p = and_parts (in_time t) _ v in
     named_back true IAmStarting t m p.0 p.1 refl ∙ rw (named_read true IAmStarting t m p.1)
-read_written (subscribe c) v = change_back Subscription Subscribe c v refl ∙ rw (change-read Subscription Subscribe c v)
-read_written (unsubscribe c) v = change_back Subscription Unsubscribe c v refl ∙ rw (change-read Subscription Unsubscribe c v)
+read_written (subscribe c) v = change_back Subscription Subscribe c v refl ∙ rw (change_read Subscription Subscribe c v)
+read_written (unsubscribe c) v = change_back Subscription Unsubscribe c v refl ∙ rw (change_read Subscription Unsubscribe c v)
 read_written (i_am_stopping t m) v =
     let p = and_parts (in_time t) _ v in
     named_back false IAmStopping t m p.0 p.1 refl ∙ rw (named_read false IAmStopping t m p.1)

@@ -13,9 +13,9 @@ use Rattle.wire.specs.Types.{type_number, type_of, numbered, all_types, length_r
 use Rattle.wire.specs.Headers.{octet, header, header_in, header_by, header_checks, first_checks, typed, read_header, header_octets, supplement, time_of}
 use Rattle.wire.specs.Reads.{read, by_type}
 use Rattle.wire.specs.Laws.{Octets}
-use Rattle.wire.proofs.Digits.{word_back, time_back, half_back, octets_of, first_of, word-octets_of, word_below}
+use Rattle.wire.proofs.Digits.{word_back, time_back, half_back, octets_of, first_of, word_octets_of, word_below}
 use Rattle.wire.proofs.Inverts.{Passed, passed, then_ok, ok_is}
-use Rattle.wire.proofs.Reading.{header-some}
+use Rattle.wire.proofs.Reading.{header_some}
 
 type_back : (k : MetaType) → type_of (type_number k) ≡ Some k
 type_back Rejection = refl
@@ -59,7 +59,7 @@ header_back k r f t xs n l p q =
     let s : supplement ys ≡ length xs = half_back (length xs) l in
     let m : eqb (length ys) (18 + length xs) ≡ true = eq-eqb (length ys) (18 + length xs) (omega arith) in
     let c : passing (header_checks ys k) ≡ Ok tt = rw (s, n, m) in
-    header-some ys k f t (omega arith) (type_small k) (type_back k) c (sym (word_back f p)) (sym (time_back t q))
+    header_some ys k f t (omega arith) (type_small k) (type_back k) c (sym (word_back f p)) (sym (time_back t q))
 
 pub meta_back : (k : MetaType) (r f t : ℕ) (xs : List ℕ) → length_right k (length xs) ≡ true → length xs < 65536 → f < 4294967296 → t < 1099511627776
     → read (header_octets (header k r f t) (length xs) xs) ≡ by_type k (header_octets (header k r f t) (length xs) xs) (header k r f t)
@@ -96,7 +96,7 @@ split xs k o l e q =
     let s7 : supplement xs % 256 ≡ octet xs 7 = omega (arith, o 6, o 7) in
     let t0 : time_of xs / 4294967296 % 256 ≡ octet xs 13 = first_of (octet xs 13) (word_at xs 14) (o 13) (word_below xs 14 o) in
     let t1 = octets_of (octet xs 13) (octet xs 14) (octet xs 15) (octet xs 16) (octet xs 17) (o 14) (o 15) (o 16) (o 17) (drop 18 xs) in
-    let f1 = word-octets_of (octet xs 8) (octet xs 9) (octet xs 10) (octet xs 11) (o 8) (o 9) (o 10) (o 11) in
+    let f1 = word_octets_of (octet xs 8) (octet xs 9) (octet xs 10) (octet xs 11) (o 8) (o 9) (o 10) (o 11) in
     rw (e, s6, s7, t0, t1, f1 (29 ∷ octet xs 13 ∷ octet xs 14 ∷ octet xs 15 ∷ octet xs 16 ∷ octet xs 17 ∷ drop 18 xs))
     (rw (e1, e2, e3, e5, e12) at (front 18 xs l))
 

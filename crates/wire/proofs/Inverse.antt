@@ -33,8 +33,8 @@ pub record Inverse (xs : List ℕ) (h : Header) (v : FrameV) : Type 0 where
   pub content : data_of v ≡ drop 18 xs
   pub fit : carried v ≡ true
 
-is-header : (h : Header) (k : MetaType) (r f : ℕ) → h.kind ≡ k → h.role ≡ r → h.reference ≡ f → Some (header k r f h.time) ≡ Some h
-is-header h k r f a b c = rw (← a, ← b, ← c)
+is_header : (h : Header) (k : MetaType) (r f : ℕ) → h.kind ≡ k → h.role ≡ r → h.reference ≡ f → Some (header k r f h.time) ≡ Some h
+is_header h k r f a b c = rw (← a, ← b, ← c)
 
 ends_ok : (h : Header) (r : ℕ) (b : Bool) (x : Unit {0}) → ends h r b ≡ Ok x → (h.role ≡ r) × (b ≡ true)
 ends_ok h r b x e =
@@ -73,7 +73,7 @@ module _ (xs : List ℕ) (h : Header) (o : Octets xs) (hr : HeaderRead xs h) whe
       let g : rejection h.time h.reference t.0 ≡ v = ok_is _ v s.2 in
       let l = sized Rejection 4 k (λ q. eqb-true _ 4 q) in
       rw (← g) (record {
-        head = is-header h Rejection 0 h.reference k n.0 refl;
+        head = is_header h Rejection 0 h.reference k n.0 refl;
         content = one_word xs (reason_word t.0) o l f.1;
         fit = and_from _ _ (timed h.time hr.time) (le-leb h.reference 4294967295 (omega (arith, hr.reference)));
       })
@@ -86,7 +86,7 @@ module _ (xs : List ℕ) (h : Header) (o : Octets xs) (hr : HeaderRead xs h) whe
       let g : you_are_dead h.time (module_in h.reference) ≡ v = ok_is _ v s.2 in
       let l = sized YouAreDead 0 k (λ q. eqb-true _ 0 q) in
       rw (← g) (record {
-        head = is-header h YouAreDead 0 (id_of (module_in h.reference)) k n.0 (sym f.1);
+        head = is_header h YouAreDead 0 (id_of (module_in h.reference)) k n.0 (sym f.1);
         content = sym (drop_all 18 xs (omega arith));
         fit = and_from _ _ (timed h.time hr.time) f.0;
       })
@@ -108,7 +108,7 @@ module _ (xs : List ℕ) (h : Header) (o : Octets xs) (hr : HeaderRead xs h) whe
       let n = ends_ok h m.role (refers_to h m) d.0 d.1 in
       let g = ok_is _ c d.2 in
       rw (← g) (
-        is-header h k m.role (id_of (module_of m)) p n.0 (eqb-true _ _ n.1),
+        is_header h k m.role (id_of (module_of m)) p n.0 (eqb-true _ _ n.1),
         two_words xs (member_word m) (rule_word u) o l f.1 y.1,
         and_from _ _ (timed h.time hr.time) (and_from _ _ f.0 (and_from _ _ y.0.1 (and_from _ _ (same u.kind j y.0.0) (rw i at q.0.0)))),
       )
@@ -123,7 +123,7 @@ module _ (xs : List ℕ) (h : Header) (o : Octets xs) (hr : HeaderRead xs h) whe
       let g : module_registration h.time h.reference a ≡ v = ok_is _ v s.2 in
       let l = sized ModuleRegistration 4 k (λ q. eqb-true _ 4 q) in
       rw (← g) (record {
-        head = is-header h ModuleRegistration a.role h.reference k n.0 refl;
+        head = is_header h ModuleRegistration a.role h.reference k n.0 refl;
         content = one_word xs (applicant_word a) o l f.1;
         fit = and_from _ _ (timed h.time hr.time) (and_from _ _ (referred h.reference (ltb-true _ _ n.1) hr.reference) f.0);
       })
@@ -151,7 +151,7 @@ module _ (xs : List ℕ) (h : Header) (o : Octets xs) (hr : HeaderRead xs h) whe
       let w = and_parts (within 4 864 (length (drop 18 xs))) _ (rw k at hr.right) in
       let l : 4 ≤ length (drop 18 xs) = leb-true 4 _ (and_parts (leb 4 (length (drop 18 xs))) _ w.0).0 in
       rw (← g) (record {
-        head = is-header h YouAreIn 0 h.reference k n.0 refl;
+        head = is_header h YouAreIn 0 h.reference k n.0 refl;
         content = word_and_rest xs (member_word m) b o (omega (arith, hr.size)) f.1 y.0;
         fit = and_from _ _ (timed h.time hr.time) (and_from _ _ (referred h.reference (ltb-true _ _ n.1) hr.reference) (and_from _ _ f.0 (and_from _ _ y.1 q.0.0)));
       })
@@ -166,7 +166,7 @@ module _ (xs : List ℕ) (h : Header) (o : Octets xs) (hr : HeaderRead xs h) whe
       let g : t.0 ≡ m = ok_is _ m s.2 in
       let f = member_trip.forth (word_at xs 18) 18 t.0 (up_ok _ t.0 t.1) in
       rw (← g) (
-        is-header h k (cond b 0 t.0.role) (id_of (module_of t.0)) p n.0 (eqb-true _ _ n.1),
+        is_header h k (cond b 0 t.0.role) (id_of (module_of t.0)) p n.0 (eqb-true _ _ n.1),
         one_word xs (member_word t.0) o l f.1,
         and_from _ _ (timed h.time hr.time) f.0,
       )
@@ -180,7 +180,7 @@ module _ (xs : List ℕ) (h : Header) (o : Octets xs) (hr : HeaderRead xs h) whe
       let n = ends_ok h 0 (eqb h.reference 0) s.0 s.1 in
       let g : cell_status h.time b ≡ v = ok_is _ v s.2 in
       rw (← g) (record {
-        head = is-header h CellStatus 0 0 k n.0 (eqb-true _ _ n.1);
+        head = is_header h CellStatus 0 0 k n.0 (eqb-true _ _ n.1);
         content = y.0;
         fit = and_from _ _ (timed h.time hr.time) y.1;
       })

@@ -62,5 +62,5 @@ framed v h d b n e k l g =
     let m : 18 + length (data_of v) ≡ 18 + n = ap (λ z. 18 + z) (sym k) in
     (over_front d b (header_octets h n []) (data_of v) 18 l refl g ∙ rw (w, m), rw w (omega (arith, k)))
 
-pub short-answer : (n : ℕ) (v : FrameV) → n < 1012 → Err ShortBuffer ≡ write_answer n v
-short-answer n v l = sym (cond-true _ _ _ (lt-ltb n 1012 l))
+pub short_answer : (n : ℕ) (v : FrameV) → n < 1012 → Err ShortBuffer ≡ write_answer n v
+short_answer n v l = sym (cond-true _ _ _ (lt-ltb n 1012 l))

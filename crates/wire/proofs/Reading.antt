@@ -16,6 +16,6 @@ message_some xs k a b c l p q r s =
     let t : message_kind (kind_of (word_at xs 0)) ≡ Some k = rw p at s in
     rw (p, q, r, le-leb 12 (length xs) l, t)
 
-pub header-some : (xs : List ℕ) (k : MetaType) (f t : ℕ) → 18 ≤ length xs → octet xs 0 < 32 → type_of (octet xs 0) ≡ Some k → passing (header_checks xs k) ≡ Ok tt
+pub header_some : (xs : List ℕ) (k : MetaType) (f t : ℕ) → 18 ≤ length xs → octet xs 0 < 32 → type_of (octet xs 0) ≡ Some k → passing (header_checks xs k) ≡ Ok tt
     → f ≡ word_at xs 8 → t ≡ time_of xs → Ok (header k (octet xs 4) f t) ≡ read_header xs
-header-some xs k f t l o e c p q = rw (p, q, le-leb 18 (length xs) l, lt-ltb (octet xs 0) 32 o, e, c)
+header_some xs k f t l o e c p q = rw (p, q, le-leb 18 (length xs) l, lt-ltb (octet xs 0) 32 o, e, c)

@@ -44,15 +44,15 @@ module _ (xs : List ℕ) (b : Book xs) where
       let c = counts_up (λ j. is_member (word_of xs j)) k (words_in xs) h m in
       rw m (and_from _ _ (lt-ltb _ 15 (omega (arith, c, b.members))) (not_from_false _ (seat_free k h m)))
 
-  rule-sits : (k : ℕ) → k < words_in xs → is_rule (word_of xs k) ≡ true → sits xs k (word_of xs k) ≡ true
-  rule-sits k h r =
+  rule_sits : (k : ℕ) → k < words_in xs → is_rule (word_of xs k) ≡ true → sits xs k (word_of xs k) ≡ true
+  rule_sits k h r =
       let c = counts_up (λ j. is_rule (word_of xs j)) k (words_in xs) h r in
       let o = b.owned k h r in
       let f = some_found (λ j. answers (Holder (number_of (word_of xs k))) (word_of xs j)) k o.0 o.1 (and_from _ _ o.2 (eq-eqb _ _ o.3)) in
       rw (rule_no_member (word_of xs k) r, r) (and_from _ _ (lt-ltb _ 200 (omega (arith, c, b.rules))) f)
 
   all_fit : (k : ℕ) → k < words_in xs → fits xs k ≡ true
-  all_fit k h = and_from _ _ (rising k h) (⊎_elim (member_sits k h) (rule-sits k h) (b.each k h))
+  all_fit k h = and_from _ _ (rising k h) (⊎_elim (member_sits k h) (rule_sits k h) (b.each k h))
 
 pub book_is_sound : BookIsSound
 book_is_sound xs b = rw (none_wrong (fits xs) (words_in xs) (all_fit xs b), eq-eqb (length xs % 4) 0 b.whole)

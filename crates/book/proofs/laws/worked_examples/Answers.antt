@@ -5,9 +5,9 @@ use Rattle.book.specs.Numbers.{after}
 use Rattle.book.specs.Sound.{holds}
 use Rattle.book.proofs.laws.worked_examples.Goals as goal
 
-one-passed : (j : ℕ) → j < 1 → holds (after 255 j) (listener ∷ []) ≡ true
-one-passed zero h = refl
-one-passed (suc j) h = absurd (omega arith)
+one_passed : (j : ℕ) → j < 1 → holds (after 255 j) (listener ∷ []) ≡ true
+one_passed zero h = refl
+one_passed (suc j) h = absurd (omega arith)
 
 pub returns : goal.returns
-returns c = (record { place = 1; is = refl; free = refl; passed = one-passed }, refl, refl)
+returns c = (record { place = 1; is = refl; free = refl; passed = one_passed }, refl, refl)

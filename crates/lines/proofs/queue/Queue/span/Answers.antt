@@ -1,7 +1,7 @@
 -- The frame ends before the octets do.
 use Rattle.std.proofs.Common.{◌<◌, length, vec_items, ◌∙◌, arith}
 use Rattle.std.proofs.lemmas.List.{get_or_read}
-use Rattle.lines.specs.Pieces.{sized_at, within-total}
+use Rattle.lines.specs.Pieces.{sized_at, within_total}
 use Rattle.lines.proofs.Queues.{octets_low}
 use Rattle.lines.proofs.queue.Queue.span.Goals as goal
 
@@ -13,5 +13,5 @@ returns c =
     let h : i < length ns = omega arith in
     let read = get_or_read ns i c.index.result.now h c.index.ensures 0 in
     let some = sized_at ns i h q.sized in
-    let within = within-total ns i h in
+    let within = within_total ns i h in
     record { start = c.start.ensures; length = c.from.ensures ∙ read; some = omega arith; within = omega arith; low = octets_low q }

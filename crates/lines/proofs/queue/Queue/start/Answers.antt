@@ -1,7 +1,7 @@
 -- One length more, still within the octets.
 use Rattle.std.proofs.Common.{◌<◌, length, vec_items, arith}
 use Rattle.std.proofs.lemmas.List.{get_or_read}
-use Rattle.lines.specs.Pieces.{total_more, within-total}
+use Rattle.lines.specs.Pieces.{total_more, within_total}
 use Rattle.lines.proofs.Queues.{octets_low}
 use Rattle.lines.proofs.queue.Queue.start.Goals as goal
 
@@ -12,7 +12,7 @@ overflow_add-start c =
     let k = c.loop-k.k in
     let h : k < length ns = omega arith in
     let read = get_or_read ns k c.index.result.now h c.index.ensures 0 in
-    let within = within-total ns k h in
+    let within = within_total ns k h in
     let low = octets_low q in
     omega arith
 
