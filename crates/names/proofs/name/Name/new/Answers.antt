@@ -1,3 +1,4 @@
+-- The octets put in front of zeros are the text, and the rest are 0.
 use Rattle.std.proofs.Common.{◌≡◌, ℕ, ◌-◌, ◌≤◌, List, ◌++◌, length, take, drop, replicate, ap, ◌∙◌, arith, length-append, length-drop}
 use native.Mathlib.Nat.{sub-zero}
 use lib.ListN.{length-replicate}

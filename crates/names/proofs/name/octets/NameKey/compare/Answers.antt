@@ -1,3 +1,4 @@
+-- Names stand as their octets do.
 use Rattle.table.proofs.Lexical.{digits_ranked}
 use Rattle.names.specs.Names.{octets}
 use Rattle.names.specs.Apart.{apart}
