@@ -7,6 +7,8 @@ ghost use Rattle.std.proofs.Common.{rules};
 use std::cmp::Ordering;
 
 // A key by its strict order: of two keys exactly one of less, equal, greater holds, and less is transitive.
+// `Ord` says less: its keys may tie without being the same value. So `compare` promises this where `cmp` can't, though
+// each key computes it by `cmp`.
 pub trait Key: Sized {
     ghost less: { Self → Self → Bool };
 

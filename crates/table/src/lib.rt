@@ -16,15 +16,20 @@ mod search;
 
 pub use search::find;
 
-// Tests on records.
-mod keep;
+// Why a record did not enter a table.
+mod insert_error;
 
-pub use keep::Keep;
+pub use insert_error::InsertError;
 
-// What became of a record that was to be entered.
-mod entry;
+// Why a record was not put behind all others.
+mod put_last_error;
 
-pub use entry::Entry;
+pub use put_last_error::PutLastError;
+
+// Records one behind the other, in any order.
+mod rows;
+
+pub use rows::Rows;
 
 // The table.
 mod ordered;

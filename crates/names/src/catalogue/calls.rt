@@ -9,7 +9,7 @@ use crate::catalogue::Catalogue;
 use crate::name::Name;
 use crate::named::Named;
 use std::alloc::{AllocError, Global};
-use table::{Entry, Table};
+use table::{InsertError, Table};
 
 impl Catalogue {
     pub fn new(heap: Global) -> Result<Catalogue, AllocError>
@@ -26,7 +26,7 @@ impl Catalogue {
         self.entries.get(name)
     }
 
-    pub fn insert(&mut self, x: Named) -> Entry
+    pub fn insert(&mut self, x: Named) -> Result<(), InsertError>
         ensures answer { result ≡ answer name_less name_of 200 x (entries_of self.old) }
         ensures entries { entries_of self.new ≡ after result (entered name_less name_of x (entries_of self.old)) (entries_of self.old) }
     {

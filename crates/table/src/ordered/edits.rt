@@ -1,82 +1,76 @@
 // Records enter a table and leave it.
-ghost use Rattle.std.specs.Prelude.{◌≡◌, true, [], ◌∷◌, ◌++◌, length, if◌then◌else◌, filter, nat_lt};
-ghost use Rattle.table.specs.Entries.{after, answer};
+ghost use Rattle.std.specs.Prelude.{◌≡◌, [], ◌∷◌, ◌++◌};
+ghost use Rattle.std.specs.Fn.{CalledAt};
+ghost use Rattle.std.specs.List.Retain.{IsFiltered};
+ghost use Rattle.table.specs.Entries.{after, answer, last_answer};
 ghost use Rattle.table.specs.Items.{items};
-ghost use Rattle.table.specs.Ordered.{ascending, entered, stands, without};
+ghost use Rattle.table.specs.Ordered.{entered, stands, without};
 
-use crate::entry::Entry;
-use crate::keep::{Keep, compact};
-use crate::key::Key;
+use crate::insert_error::InsertError;
 use crate::ordered::Table;
+use crate::put_last_error::PutLastError;
 use crate::record::Record;
-use crate::search::find;
 
-impl<R: Drop, const LIMIT: usize> Table<R, LIMIT> {
+impl<R: Record + Drop, const LIMIT: usize> Table<R, LIMIT> {
     // Every record goes.
     pub fn clear(&mut self)
         ensures { items self.new ≡ [] }
     {
-        self.records.clear();
+        self.rows.clear();
     }
 
-    // Puts the record behind all others, unless the table is full; the answer is whether there was room. Whoever puts
-    // records so puts them in ascending order.
-    pub fn push(&mut self, x: R) -> bool
-        ensures answer { result ≡ nat_lt (length (items self.old)) LIMIT }
-        ensures items { items self.new ≡ (if result then items self.old ++ (x ∷ []) else items self.old) }
+    // Puts the record behind all others, unless its key is not above theirs or the table is full.
+    pub fn put_last(&mut self, x: R) -> Result<(), PutLastError>
+        ensures answer { result ≡ last_answer R.Key.Key.less R.keyed LIMIT x (items self.old) }
+        ensures items { items self.new ≡ after result (items self.old ++ (x ∷ [])) (items self.old) }
     {
-        let room = self.records.len() < LIMIT;
-        if room {
-            self.records.push_reserved(x);
+        if !self.may_end(&x) {
+            return Err(PutLastError::NotAbove);
         }
-        room
+        if self.rows.push(x) {
+            Ok(())
+        } else {
+            Err(PutLastError::Full)
+        }
     }
-}
 
-impl<R: Record + Drop, const LIMIT: usize> Table<R, LIMIT> {
     // Enters the record in its place, unless its key stands already or the table is full.
-    pub fn insert(&mut self, x: R) -> Entry
-        ensures answer { ascending R.Key.Key.less R.keyed (items self.old) ≡ true → result ≡ answer R.Key.Key.less R.keyed LIMIT x (items self.old) }
+    pub fn insert(&mut self, x: R) -> Result<(), InsertError>
+        ensures answer { result ≡ answer R.Key.Key.less R.keyed LIMIT x (items self.old) }
         ensures items { items self.new ≡ after result (entered R.Key.Key.less R.keyed x (items self.old)) (items self.old) }
-        ensures rising { ascending R.Key.Key.less R.keyed (items self.old) ≡ true → ascending R.Key.Key.less R.keyed (items self.new) ≡ true }
     {
-        let key = x.key();
-        match find(self.records.as_slice(), &key) {
-            Ok(_) => Entry::Standing,
+        match self.place(&x.key()) {
+            Ok(_) => Err(InsertError::Standing),
             Err(at) => {
-                if self.records.len() >= LIMIT {
-                    return Entry::Full;
+                if self.rows.insert(at, x) {
+                    Ok(())
+                } else {
+                    Err(InsertError::Full)
                 }
-                let _ = self.records.insert(at, x);
-                Entry::New
             }
         }
     }
 
     // Takes away the record with this key, and answers whether there was one.
     pub fn remove(&mut self, key: &R::Key) -> bool
-        ensures answer { ascending R.Key.Key.less R.keyed (items self.old) ≡ true → result ≡ stands R.Key.Key.less R.keyed key.now (items self.old) }
-        ensures items { ascending R.Key.Key.less R.keyed (items self.old) ≡ true → items self.new ≡ without R.Key.Key.less R.keyed key.now (items self.old) }
-        ensures rising { ascending R.Key.Key.less R.keyed (items self.old) ≡ true → ascending R.Key.Key.less R.keyed (items self.new) ≡ true }
+        ensures answer { result ≡ stands R.Key.Key.less R.keyed key.now (items self.old) }
+        ensures items { items self.new ≡ without R.Key.Key.less R.keyed key.now (items self.old) }
     {
-        match find(self.records.as_slice(), key) {
+        match self.place(key) {
             Ok(at) => {
-                drop(self.records.remove(at));
+                self.rows.remove(at);
                 true
             }
             Err(_) => false,
         }
     }
 
-    // Keeps the records that pass, in their order.
-    pub fn retain<P: Keep<R>>(&mut self, which: &P)
-    where
-        R: Copy,
-        ensures items { items self.new ≡ filter (P.Keep.keeps which.now) (items self.old) }
-        ensures rising { ascending R.Key.Key.less R.keyed (items self.old) ≡ true → ascending R.Key.Key.less R.keyed (items self.new) ≡ true }
+    // Keeps the records at which `which` answers true, in their order.
+    pub fn retain<F: FnMut(&R) -> bool>(&mut self, which: F)
+        requires { F.IsAlwaysCallable which }
+        ensures items { IsFiltered (CalledAt F.FnMut) which (items self.old) (items self.new) }
     {
-        let passing = compact(self.records.as_mut_slice(), which);
-        self.records.truncate(passing);
+        self.rows.retain(which);
     }
 
     // The records of another table take the place of its own.
@@ -85,7 +79,6 @@ impl<R: Record + Drop, const LIMIT: usize> Table<R, LIMIT> {
         R: Copy,
         ensures { items self.new ≡ items other.now }
     {
-        self.clear();
-        let _ = self.records.extend_from_slice(other.records.as_slice());
+        self.rows.copy_from(&other.rows);
     }
 }
