@@ -1,10 +1,10 @@
 -- The loop over the words of a book: one turn, and what a wrong word leaves. Assumes nothing.
-use Rattle.std.proofs.Common.{◌≡◌, ℕ, ◌+◌, ◌<◌, ◌≤◌, Bool, true, false, cond, eqb, ◌⊎◌, List, Some, None, ◌∙◌, inl, inr, ⊎_elim, arith}
+use Rattle.std.proofs.Common.{◌≡◌, ℕ, ◌+◌, ◌<◌, ◌≤◌, Bool, true, false, cond, eqb, ◌⊎◌, List, Some, None, ◌∙◌, inl, inr, ⊎_elim, add-one, arith}
 use Rattle.std.proofs.lemmas.Bool.{cases_Bool, and_parts, and_left, or_from, eqb-true, ne_eqb, ltb-true}
 use Rattle.words.specs.Words.{kind_of}
 use Rattle.words.specs.Records.{is_member, is_rule}
-use Rattle.words.specs.Books.{count_below, first_wrong, fits, sits, ascends, members_before, rules_before, word_of, words_in, wrong_word}
-use Rattle.words.proofs.Search.{first_more, count_more}
+use Rattle.words.specs.Books.{count_below, last_before, first_wrong, fits, sits, ascends, members_before, rules_before, word_of, words_in, wrong_word}
+use Rattle.words.proofs.Search.{count_more, none_more}
 
 -- no word is both
 pub member_no_rule : (w : ℕ) → is_member w ≡ true → is_rule w ≡ false
@@ -34,6 +34,10 @@ abbrev pub Turned : List ℕ → ℕ → ℕ → ℕ → Type 0
 Turned xs k m r =
     (first_wrong (fits xs) k ≡ None) × (m ≡ members_before xs k) × (r ≡ rules_before xs k) × (m ≤ 15) × (r ≤ 200) × (m + r ≡ k)
 
+-- with one word more, that word is the last
+pub last_more : (xs : List ℕ) (k w : ℕ) → w ≡ word_of xs k → Some w ≡ last_before xs (k + 1)
+last_more xs k w e = rw (add-one k, e)
+
 -- a count of the words that pass a test, with one word more
 pub counted_more : (f : ℕ → Bool) (xs : List ℕ) (k m i w : ℕ) → m ≡ count_below (λ j. f (word_of xs j)) k → w ≡ word_of xs k → i ≡ m + cond (f w) 1 0
     → i ≡ count_below (λ j. f (word_of xs j)) (k + 1)
@@ -46,7 +50,7 @@ one_at_most false m i k e l = omega arith
 pub turn : (xs : List ℕ) (k m r i j w : ℕ) → Turned xs k m r → fits xs k ≡ true → w ≡ word_of xs k
     → i ≡ m + cond (is_member w) 1 0 → j ≡ r + cond (is_rule w) 1 0 → Turned xs (k + 1) i j
 turn xs k m r i j w t h e a b =
-    let f : first_wrong (fits xs) (k + 1) ≡ None = first_more (fits xs) k ∙ rw (t.0, h) in
+    let f = none_more (fits xs) k t.0 h in
     let p : i ≡ members_before xs (k + 1) = counted_more is_member xs k m i w t.1 e a in
     let q : j ≡ rules_before xs (k + 1) = counted_more is_rule xs k r j w t.2 e b in
     ⊎_elim

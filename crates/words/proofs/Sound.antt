@@ -3,8 +3,7 @@ use Rattle.std.proofs.Common.{◌≡◌, ℕ, zero, suc, ◌-◌, ◌%◌, ◌<�
 use Rattle.std.proofs.lemmas.Bool.{cases_Bool, cases_eq, and_parts, or_parts, or_cases, eqb-true, eqb-false, ltb-true, not-true}
 use Rattle.words.specs.Words.{number_of, tail_of}
 use Rattle.words.specs.Records.{is_member, is_rule}
-use Rattle.words.specs.declared.sought.Sought.TheVariants.{Seat, Holder}
-use Rattle.words.specs.Books.{some_below, first_wrong, or_else, is_none, wrong_word, words_in, word_of, fits, sits, ascends, stands, answers, members_before, rules_before, book_sound}
+use Rattle.words.specs.Books.{some_below, first_wrong, or_else, is_none, wrong_word, words_in, word_of, fits, sits, ascends, stands, in_seat, numbered, members_before, rules_before, book_sound}
 use Rattle.words.specs.Laws.{SoundIsBook}
 use Rattle.words.proofs.Books.{Turned, turn, one_more, member_no_rule}
 
@@ -80,8 +79,8 @@ module _ (xs : List ℕ) (right : (k : ℕ) → k < words_in xs → fits xs k �
       let w = word_of xs i in
       let v = word_of xs j in
       let s = sits_at j h in
-      let f : stands xs j (Seat (number_of v) (tail_of v)) ≡ false = not-true _ (and_parts _ _ (rw b at s)).1 in
-      let g : answers (Seat (number_of v) (tail_of v)) w ≡ false = none_at (λ k. answers (Seat (number_of v) (tail_of v)) (word_of xs k)) j i f l in
+      let f : stands xs j (in_seat (number_of v) (tail_of v)) ≡ false = not-true _ (and_parts _ _ (rw b at s)).1 in
+      let g : in_seat (number_of v) (tail_of v) w ≡ false = none_at (λ k. in_seat (number_of v) (tail_of v) (word_of xs k)) j i f l in
       let o = or_parts (eqb (number_of w) (number_of v)) (eqb (tail_of w) (tail_of v)) (rw a at g) in
       (eqb-false _ _ o.0, eqb-false _ _ o.1)
 
@@ -91,7 +90,7 @@ module _ (xs : List ℕ) (right : (k : ℕ) → k < words_in xs → fits xs k �
       let v = word_of xs j in
       let m : is_member v ≡ false = rule_no_member v a in
       let s = and_parts (is_rule v) _ (rw m at (sits_at j h)) in
-      let r = some_at (λ k. answers (Holder (number_of v)) (word_of xs k)) j (and_parts _ _ s.1).1 in
+      let r = some_at (λ k. numbered (number_of v) (word_of xs k)) j (and_parts _ _ s.1).1 in
       let p = and_parts (is_member (word_of xs r.0)) _ r.2 in
       (r.0, r.1, p.0, eqb-true _ _ p.1)
 

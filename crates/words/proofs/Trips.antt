@@ -6,35 +6,13 @@ use Rattle.words.specs.declared.message_kind.MessageKind.{MessageKind}
 use Rattle.words.specs.declared.head.MessageHead.{MessageHead}
 use Rattle.words.specs.Ranges.{within}
 use Rattle.words.specs.Words.{word, kind_of, number_of, role_of, tail_of}
-use Rattle.words.specs.Records.{read_if, is_member}
 use Rattle.words.specs.Heads.{valid_head, kind_number, priority_of, content_length, context_of, head_of, receiver_word, sender_word, context_word, receiver_stands, sender_stands, context_stands, in_turn, read_head}
-use Rattle.words.specs.Laws.{MemberTrip, ApplicantTrip, RuleTrip, ReasonTrip, ModuleTrip, HeadTrip, WordOrder}
-
-pub read_if_ok : {A : Type 0} (b : Bool) (x y : A) (at : ℕ) → read_if b x at ≡ Ok y → (b ≡ true) × (x ≡ y)
-read_if_ok true x y at e = (refl, cc)
-read_if_ok false x y at e = let z : ◌≡◌ {A = ℕ} 0 1 = cc in absurd (omega arith)
-
-pub fields : (w k : ℕ) → kind_of w ≡ k → word k (number_of w) (role_of w) (tail_of w) ≡ w
-fields w k h = search rules
-
-pub member_trip : MemberTrip
-member_trip = record {
-  back = λ m at v. search rules;
-  forth = λ w at m e.
-      let p = read_if_ok (is_member w) _ m at e in
-      let q = and_parts (eqb (kind_of w) 1) _ p.0 in
-      rw (← p.1) (q.1, fields w 1 (eqb-true _ _ q.0));
-}
-
-pub applicant_trip : ApplicantTrip
-applicant_trip = record { back = λ m at v. search rules; forth = λ w at m e. search rules }
+pub use Rattle.words.specs.Trips.{applicant_trip, fields, member_trip, read_if_ok, reason_trip}
+use Rattle.words.specs.Laws.{RuleTrip, ModuleTrip, HeadTrip, WordOrder}
 
 pub rule_trip : RuleTrip
 rule_trip Subscription = record { back = λ m at v. search rules; forth = λ w at m e. search rules }
 rule_trip Invitation = record { back = λ m at v. search rules; forth = λ w at m e. search rules }
-
-pub reason_trip : ReasonTrip
-reason_trip = record { back = λ m at v. search rules; forth = λ w at m e. search rules }
 
 pub module_trip : ModuleTrip
 module_trip = record { back = λ m v. search rules; forth = λ f m e. search rules }

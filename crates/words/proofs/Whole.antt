@@ -3,8 +3,7 @@ use Rattle.std.proofs.Common.{◌≡◌, ℕ, zero, suc, ◌-◌, ◌%◌, ◌<�
 use Rattle.std.proofs.lemmas.Bool.{cases_Bool, cases_eq, and_from, and_left, or_from, or_right, eq-eqb, ne_eqb, lt-ltb, not_from_false}
 use Rattle.words.specs.Words.{number_of, tail_of}
 use Rattle.words.specs.Records.{is_member, is_rule}
-use Rattle.words.specs.declared.sought.Sought.TheVariants.{Seat, Holder}
-use Rattle.words.specs.Books.{some_below, count_below, first_wrong, words_in, word_of, fits, sits, ascends, stands, answers}
+use Rattle.words.specs.Books.{some_below, count_below, first_wrong, words_in, word_of, fits, sits, ascends, stands, in_seat, numbered}
 use Rattle.words.specs.Laws.{Book, BookIsSound}
 use Rattle.words.proofs.Search.{some_found}
 use Rattle.words.proofs.Sound.{rule_no_member}
@@ -32,9 +31,9 @@ module _ (xs : List ℕ) (b : Book xs) where
       let e : suc j - 1 ≡ j = omega arith in
       or_right (eqb (suc j) 0) _ (rw e (lt-ltb (word_of xs j) (word_of xs (suc j)) (b.ascending j (suc j) (omega arith) h)))
 
-  seat_free : (k : ℕ) → k < words_in xs → is_member (word_of xs k) ≡ true → stands xs k (Seat (number_of (word_of xs k)) (tail_of (word_of xs k))) ≡ false
+  seat_free : (k : ℕ) → k < words_in xs → is_member (word_of xs k) ≡ true → stands xs k (in_seat (number_of (word_of xs k)) (tail_of (word_of xs k))) ≡ false
   seat_free k h m =
-      none_below (λ j. answers (Seat (number_of (word_of xs k)) (tail_of (word_of xs k))) (word_of xs j)) k (λ i l.
+      none_below (λ j. in_seat (number_of (word_of xs k)) (tail_of (word_of xs k)) (word_of xs j)) k (λ i l.
       ⊎_elim (λ (q : is_member (word_of xs i) ≡ true). let s = b.seats i k l h q m in rw q (or_from _ _ (ne_eqb _ _ s.0) (ne_eqb _ _ s.1)))
       (λ (q : is_member (word_of xs i) ≡ false). and_left _ _ q)
       (cases_Bool (is_member (word_of xs i))))
@@ -48,7 +47,7 @@ module _ (xs : List ℕ) (b : Book xs) where
   rule_sits k h r =
       let c = counts_up (λ j. is_rule (word_of xs j)) k (words_in xs) h r in
       let o = b.owned k h r in
-      let f = some_found (λ j. answers (Holder (number_of (word_of xs k))) (word_of xs j)) k o.0 o.1 (and_from _ _ o.2 (eq-eqb _ _ o.3)) in
+      let f = some_found (λ j. numbered (number_of (word_of xs k)) (word_of xs j)) k o.0 o.1 (and_from _ _ o.2 (eq-eqb _ _ o.3)) in
       rw (rule_no_member (word_of xs k) r, r) (and_from _ _ (lt-ltb _ 200 (omega (arith, c, b.rules))) f)
 
   all_fit : (k : ℕ) → k < words_in xs → fits xs k ≡ true

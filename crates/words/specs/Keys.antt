@@ -4,16 +4,16 @@ use Rattle.table.specs.Digits.{lex}
 use Rattle.words.specs.Records.{rule_kind_number}
 use Rattle.words.specs.declared.member.Member.{Member}
 use Rattle.words.specs.declared.rule.Rule.{Rule}
-use Rattle.words.specs.declared.rule_key.RuleKey.{RuleKey}
 
 abbrev pub member_key : Member → ℕ
 member_key m = m.number
 
-abbrev pub rule_key : Rule → RuleKey
-rule_key u = record { kind = rule_kind_number u.kind; number = u.number; role = u.role; subject = u.subject }
+-- a rule is its own key
+abbrev pub rule_key : Rule → Rule
+rule_key u = u
 
-abbrev pub rule_digits : RuleKey → List ℕ
-rule_digits k = k.kind ∷ k.number ∷ k.role ∷ k.subject ∷ []
+abbrev pub rule_digits : Rule → List ℕ
+rule_digits u = rule_kind_number u.kind ∷ u.number ∷ u.role ∷ u.subject ∷ []
 
-abbrev pub rule_less : RuleKey → RuleKey → Bool
-rule_less x y = lex (rule_digits x) (rule_digits y)
+abbrev pub rule_less : Rule → Rule → Bool
+rule_less u v = lex (rule_digits u) (rule_digits v)

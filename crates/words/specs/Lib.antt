@@ -6,5 +6,7 @@ pub mod Heads
 pub mod Books
 pub mod Runs
 pub mod Laws
+pub mod Trips
 pub mod Keys
 pub mod Orders
+pub mod Names

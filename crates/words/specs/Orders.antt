@@ -1,15 +1,23 @@
--- The keys of rules are in a strict total order: the four fields tell them apart. Assumes nothing.
-use Rattle.std.specs.Prelude.{◌≡◌, ℕ}
+-- Rules are in a strict total order: the four fields tell them apart. Assumes nothing.
+use Rattle.std.proofs.Common.{◌≡◌, refl, arith}
 use Rattle.table.specs.Ordered.{Order}
 use Rattle.table.proofs.Lexical.{by_digits}
 use Rattle.words.specs.Keys.{rule_digits, rule_less}
-use Rattle.words.specs.declared.rule_key.RuleKey.{RuleKey}
+use Rattle.words.specs.Records.{rule_kind_number, rule_of}
+use Rattle.words.specs.declared.rule.Rule.{Rule}
+use Rattle.words.specs.declared.rule_kind.RuleKind.{RuleKind}
+use Rattle.words.specs.declared.rule_kind.RuleKind.TheVariants.{Subscription, Invitation}
 
-abbrev of : ℕ → ℕ → ℕ → ℕ → RuleKey
-of a b c d = record { kind = a; number = b; role = c; subject = d }
+same_kind : (k l : RuleKind) → rule_kind_number k ≡ rule_kind_number l → k ≡ l
+same_kind Subscription Subscription e = refl
+same_kind Subscription Invitation e = absurd (omega arith)
+same_kind Invitation Subscription e = absurd (omega arith)
+same_kind Invitation Invitation e = refl
 
-apart : (x y : RuleKey) → rule_digits x ≡ rule_digits y → x ≡ y
-apart x y e = let z : of x.kind x.number x.role x.subject ≡ of y.kind y.number y.role y.subject = cc in z
+pub apart : (u v : Rule) → rule_digits u ≡ rule_digits v → u ≡ v
+apart u v e =
+    let k = same_kind u.kind v.kind cc in
+    let z : rule_of u.kind u.number u.role u.subject ≡ rule_of v.kind v.number v.role v.subject = cc in z
 
 pub rule_order : Order rule_less
 rule_order = by_digits rule_digits apart

@@ -4,6 +4,7 @@
 --     valid_member ..        whether a record may stand
 --     member_word ..         the word of a record
 --     is_member ..           whether a word carries such a record
+--     member_in w ..         that record
 --     read_member w at ..    that record, or a fault at the word's place
 --     module_id n u r        the Module ID of number n, unit u and role r
 use Rattle.std.specs.Prelude.{ℕ, ◌+◌, ◌*◌, ◌/◌, ◌%◌, Bool, cond, ◌&&◌, ◌||◌, Some, None, Ok, Err, Option, Result, ◌==◌}
@@ -58,6 +59,16 @@ rejected_type Subscribe = 24
 abbrev pub cause_number : Cause → ℕ
 cause_number RuleListFull = 1
 
+-- the kind, the request and the cause of these numbers
+abbrev pub rule_kind_numbered : ℕ → Option RuleKind
+rule_kind_numbered n = cond (n == 2) (Some Subscription) (cond (n == 3) (Some Invitation) None)
+
+abbrev pub rejected_numbered : ℕ → Option Rejected
+rejected_numbered n = cond (n == 8) (Some Invite) (cond (n == 24) (Some Subscribe) None)
+
+abbrev pub cause_numbered : ℕ → Option Cause
+cause_numbered n = cond (n == 1) (Some RuleListFull) None
+
 abbrev pub member_word : Member → ℕ
 member_word m = word 1 m.number m.role m.port
 
@@ -90,11 +101,25 @@ is_reason w =
 abbrev pub read_if : {A : Type 0} → Bool → A → ℕ → Result A WordFault
 read_if b x at = cond b (Ok x) (Err (record { place = at }))
 
+-- the record in a word that carries one
+abbrev pub member_in : ℕ → Member
+member_in w = member_of (number_of w) (role_of w) (tail_of w)
+
+abbrev pub applicant_in : ℕ → Applicant
+applicant_in w = applicant_of (role_of w) (tail_of w)
+
+-- of the kind that is the word's
+abbrev pub rule_in : ℕ → Rule
+rule_in w = rule_of (cond (kind_of w == 2) Subscription Invitation) (number_of w) (role_of w) (tail_of w)
+
+abbrev pub reason_in : ℕ → Reason
+reason_in w = record { rejected = cond (role_of w == 8) Invite Subscribe; cause = RuleListFull }
+
 abbrev pub read_member : ℕ → ℕ → Result Member WordFault
-read_member w at = read_if (is_member w) (member_of (number_of w) (role_of w) (tail_of w)) at
+read_member w at = read_if (is_member w) (member_in w) at
 
 abbrev pub read_applicant : ℕ → ℕ → Result Applicant WordFault
-read_applicant w at = read_if (is_applicant w) (applicant_of (role_of w) (tail_of w)) at
+read_applicant w at = read_if (is_applicant w) (applicant_in w) at
 
 abbrev pub read_rule : RuleKind → ℕ → ℕ → Result Rule WordFault
 read_rule k w at =
@@ -102,7 +127,7 @@ read_rule k w at =
 
 abbrev pub read_reason : ℕ → ℕ → Result Reason WordFault
 read_reason w at =
-    read_if (is_reason w) (record { rejected = cond (role_of w == 8) Invite Subscribe; cause = RuleListFull }) at
+    read_if (is_reason w) (reason_in w) at
 
 abbrev pub module_id : ℕ → ℕ → ℕ → ℕ
 module_id n u r = n + 256 * u + 16777216 * r

@@ -3,7 +3,7 @@
 mod codec;
 
 // A module of a role at a port, with no number yet: its word has number 0.
-#[derive(Clone, Copy)]
+#[derive(Clone, Copy, PartialEq, Eq, Debug)]
 pub struct Applicant {
     pub role: u8,
     pub port: u8,

@@ -6,7 +6,7 @@ mod codec;
 pub use codec::content_length;
 
 // A message but for its content: the receiver's number, and the sender's role and number.
-#[derive(Clone, Copy)]
+#[derive(Clone, Copy, PartialEq, Eq, Debug)]
 pub struct MessageHead {
     pub kind: MessageKind,
     pub receiver: u8,

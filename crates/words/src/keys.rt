@@ -1,10 +1,9 @@
-// Members and rules as records of the ordered table.
+// Members and rules as records of the ordered table: a member's key is its number, and a rule is its own key.
 ghost use Rattle.words.specs.Keys.{member_key, rule_key, rule_less};
 ghost use Rattle.words.specs.Orders.{rule_order};
 
 use crate::member::Member;
 use crate::rule::Rule;
-use crate::rule_key::RuleKey;
 use std::cmp::Ordering;
 use table::{Key, Record};
 
@@ -18,27 +17,22 @@ impl Record for Member {
     }
 }
 
-impl Key for RuleKey {
+impl Key for Rule {
     ghost less = { rule_less };
 
     ghost order = { rule_order };
 
-    fn compare(&self, other: &RuleKey) -> Ordering {
+    fn compare(&self, other: &Rule) -> Ordering {
         self.cmp(other)
     }
 }
 
 impl Record for Rule {
-    type Key = RuleKey;
+    type Key = Rule;
 
     ghost keyed = { rule_key };
 
-    fn key(&self) -> RuleKey {
-        RuleKey {
-            kind: self.kind.number(),
-            number: self.number,
-            role: self.role,
-            subject: self.subject,
-        }
+    fn key(&self) -> Rule {
+        *self
     }
 }

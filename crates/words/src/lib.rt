@@ -9,6 +9,13 @@ pub use fault::WordFault;
 // The four fields of a word, and words among octets.
 mod word;
 
+pub use word::{WORD_LEN, word_at};
+
+// What a record has that a word carries.
+mod in_word;
+
+pub use in_word::InWord;
+
 // A module that holds a number, at its port.
 mod member;
 
@@ -22,7 +29,7 @@ pub use applicant::Applicant;
 // The Module ID.
 mod module_id;
 
-pub use module_id::ModuleId;
+pub use module_id::{ModuleId, UNIT};
 
 // Subscriptions and invitations.
 mod rule_kind;
@@ -34,10 +41,6 @@ mod rule;
 pub use rule::Rule;
 
 // Members and rules as records of the ordered table.
-mod rule_key;
-
-pub use rule_key::RuleKey;
-
 mod keys;
 
 // Why a request was rejected.
@@ -54,16 +57,18 @@ mod head;
 
 pub use head::{MessageHead, content_length};
 
-// What is sought among the words of a book.
-mod sought;
+// The names of kinds in plain words.
+mod names;
+
 // How many members and rules a book has.
 mod tally;
 
-pub use tally::Tally;
+pub use tally::{MOST_MEMBERS, MOST_RULES, Tally};
+
 // A book as it stands in a frame.
 mod book_run;
 
-pub use book_run::BookRun;
+pub use book_run::{BookRun, Words};
 
 // The laws of this layer.
 mod laws;

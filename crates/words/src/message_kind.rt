@@ -1,11 +1,11 @@
 // The three kinds of message.
 
-#[derive(Clone, Copy, PartialEq, Eq)]
+#[derive(Clone, Copy, PartialEq, Eq, Debug)]
 pub enum MessageKind {
     // To every member that subscribes.
-    Published,
+    Published = 8,
     // To every member of a domain that invites.
-    Announced,
+    Announced = 9,
     // To one member that invites.
-    Private,
+    Private = 10,
 }

@@ -1,9 +1,10 @@
 // The two kinds of rule.
 
-#[derive(Clone, Copy, PartialEq, Eq)]
+// The number of each is the kind of the word that carries such a rule.
+#[derive(Clone, Copy, PartialEq, Eq, PartialOrd, Ord, Debug)]
 pub enum RuleKind {
     // Published messages are wanted.
-    Subscription,
+    Subscription = 2,
     // Announced and private messages are wanted.
-    Invitation,
+    Invitation = 3,
 }

@@ -1,112 +1,93 @@
 // The words of a book in turn, each with those before it.
-ghost use Rattle.std.specs.Prelude.{◌≡◌, ◌+◌, ◌-◌, ◌*◌, ◌/◌, ◌%◌, ◌^◌, ◌<◌, ◌≤◌, length, IfSome, if◌then◌else◌, None};
+ghost use Rattle.std.specs.Prelude.{◌≡◌, ◌+◌, ◌*◌, ◌<◌, ◌≤◌, length, IfSome, None};
 ghost use Rattle.words.specs.Records.{is_member, is_rule};
-ghost use Rattle.words.specs.Books.{answers, ascends, fits, members_before, rules_before, sits, stands, wrong_word, words_in};
+ghost use Rattle.words.specs.Books.{fits, in_seat, last_before, members_before, numbered, rules_before, sits, stands, word_of, wrong_word, words_in};
 
+use crate::book_run::words::Words;
 use crate::member::is_member;
 use crate::rule::is_rule;
-use crate::sought::Sought;
-use crate::tally::Tally;
-use crate::word::{WORD_LEN, number_of, tail_of, word_at};
+use crate::tally::{MOST_MEMBERS, MOST_RULES, Tally};
+use crate::word::{WORD_LEN, number_of, tail_of};
 
-const MOST_MEMBERS: usize = 15;
+// The first words of a book, and how many members and rules there are among them.
+#[derive(Drop)]
+struct Before<'a> {
+    book: &'a [u8],
+    count: usize,
+    last: Option<u32>,
+    tally: Tally,
+    ghost within: { 4 * count ≤ length book.now },
+    ghost ends: { last ≡ last_before book.now count },
+    ghost members: { tally.members ≡ members_before book.now count },
+    ghost rules: { tally.rules ≡ rules_before book.now count },
+}
 
-const MOST_RULES: usize = 200;
-
-impl Sought {
-    fn answered_by(&self, w: u32) -> bool
-        ensures { result ≡ answers self.now w }
+impl<'a> Before<'a> {
+    fn none(book: &'a [u8]) -> Before<'a>
+        ensures book { result.book.now ≡ book.now }
+        ensures count { result.count ≡ 0 }
     {
-        match self {
-            Sought::Seat { number, port } => is_member(w)
-                && (number_of(w) == *number || tail_of(w) == *port),
-            Sought::Holder { number } => is_member(w) && number_of(w) == *number,
-            Sought::Exactly(v) => w == *v,
+        Before {
+            book,
+            count: 0,
+            last: None,
+            tally: Tally::default(),
         }
     }
-}
 
-// Whether a word as sought stands before index `k`.
-pub(crate) fn stands(book: &[u8], k: usize, sought: Sought) -> bool
-    requires { 4 * k ≤ length book.now }
-    ensures { result ≡ stands book.now k sought }
-{
-    for j in 0..k {
-        if sought.answered_by(word_at(book, WORD_LEN * j)) {
-            return true;
+    // With the next word.
+    fn with(&self, w: u32) -> Before<'a>
+        requires within { 4 * self.now.count + 3 < length self.now.book.now }
+        requires next { w ≡ word_of self.now.book.now self.now.count }
+        ensures book { result.book.now ≡ self.now.book.now }
+        ensures count { result.count ≡ self.now.count + 1 }
+    {
+        Before {
+            book: self.book,
+            count: self.count + 1,
+            last: Some(w),
+            tally: Tally {
+                members: self.tally.members + usize::from(is_member(w)),
+                rules: self.tally.rules + usize::from(is_rule(w)),
+            },
         }
     }
-    false
-}
 
-fn ascends(book: &[u8], k: usize) -> bool
-    requires { 4 * k + 3 < length book.now }
-    ensures { result ≡ ascends book.now k }
-{
-    k == 0 || word_at(book, WORD_LEN * (k - 1)) < word_at(book, WORD_LEN * k)
-}
-
-fn sits(book: &[u8], k: usize, tally: Tally, w: u32) -> bool
-    requires { (4 * k ≤ length book.now) × ((tally.members ≡ members_before book.now k) × (tally.rules ≡ rules_before book.now k)) }
-    ensures { result ≡ sits book.now k w }
-{
-    let number = number_of(w);
-    if is_member(w) {
-        tally.members < MOST_MEMBERS
-            && !stands(
-                book,
-                k,
-                Sought::Seat {
-                    number,
-                    port: tail_of(w),
-                },
-            )
-    } else {
-        is_rule(w) && tally.rules < MOST_RULES && stands(book, k, Sought::Holder { number })
-    }
-}
-
-fn fits(book: &[u8], k: usize, tally: Tally) -> bool
-    requires { (4 * k + 3 < length book.now) × ((tally.members ≡ members_before book.now k) × (tally.rules ≡ rules_before book.now k)) }
-    ensures { result ≡ fits book.now k }
-{
-    ascends(book, k) && sits(book, k, tally, word_at(book, WORD_LEN * k))
-}
-
-impl Tally {
-    // With one word more.
-    fn with(self, w: u32) -> Tally
-        requires { (self.members < 2 ^ 63) × (self.rules < 2 ^ 63) }
-        ensures members { result.members ≡ self.members + (if is_member w then 1 else 0) }
-        ensures rules { result.rules ≡ self.rules + (if is_rule w then 1 else 0) }
+    // Whether a member among them has the number or the port.
+    fn has_seat(&self, number: u8, port: u16) -> bool
+        ensures { result ≡ stands self.now.book.now self.now.count (in_seat number port) }
     {
-        let members = if is_member(w) {
-            self.members + 1
-        } else {
-            self.members
-        };
-        let rules = if is_rule(w) {
-            self.rules + 1
-        } else {
-            self.rules
-        };
-        Tally { members, rules }
+        Words::of(self.book).take(self.count).any(|v| is_member(v)
+            && (number_of(v) == number || tail_of(v) == port))
     }
-}
 
-// How many members and rules there are among the words.
-pub(crate) fn tally_words(book: &[u8]) -> Tally
-    ensures members { result.members ≡ members_before book.now (words_in book.now) }
-    ensures rules { result.rules ≡ rules_before book.now (words_in book.now) }
-{
-    let mut tally = Tally {
-        members: 0,
-        rules: 0,
-    };
-    for k in 0..book.len() / WORD_LEN {
-        tally = tally.with(word_at(book, WORD_LEN * k));
+    // Whether a member among them has the number.
+    fn has_number(&self, number: u8) -> bool
+        ensures { result ≡ stands self.now.book.now self.now.count (numbered number) }
+    {
+        Words::of(self.book)
+            .take(self.count)
+            .any(|v| is_member(v) && number_of(v) == number)
     }
-    tally
+
+    // Whether there is room for the word.
+    fn seats(&self, w: u32) -> bool
+        ensures { result ≡ sits self.now.book.now self.now.count w }
+    {
+        if is_member(w) {
+            self.tally.members < MOST_MEMBERS && !self.has_seat(number_of(w), tail_of(w))
+        } else {
+            is_rule(w) && self.tally.rules < MOST_RULES && self.has_number(number_of(w))
+        }
+    }
+
+    // Whether the word may follow them.
+    fn fits(&self, w: u32) -> bool
+        requires { w ≡ word_of self.now.book.now self.now.count }
+        ensures { result ≡ fits self.now.book.now self.now.count }
+    {
+        self.last.is_none_or(|v| v < w) && self.seats(w)
+    }
 }
 
 // The index of the first wrong word; a word cut short is one.
@@ -115,19 +96,16 @@ pub(crate) fn wrong_word(book: &[u8]) -> Option<usize>
     ensures few { result ≡ None → length book.now ≤ 860 }
     ensures within { IfSome result (λ k. 4 * k ≤ length book.now) }
 {
-    let mut tally = Tally {
-        members: 0,
-        rules: 0,
-    };
-    for k in 0..book.len() / WORD_LEN {
-        if !fits(book, k, tally) {
-            return Some(k);
+    let mut before = Before::none(book);
+    for w in Words::of(book) {
+        if !before.fits(w) {
+            return Some(before.count);
         }
-        tally = tally.with(word_at(book, WORD_LEN * k));
+        before = before.with(w);
     }
     if book.len() % WORD_LEN == 0 {
         None
     } else {
-        Some(book.len() / WORD_LEN)
+        Some(before.count)
     }
 }

@@ -1,27 +1,18 @@
 // A book is found in a frame, and read word by word.
 ghost use Rattle.std.specs.Prelude.{◌≡◌, ◌<◌, ◌≤◌, true, length, drop, IfOk, if◌then◌else◌, Some, None, nat_lt};
 ghost use Rattle.words.specs.Records.{member_word};
-ghost use Rattle.words.specs.Runs.{seen_book};
-ghost use Rattle.words.specs.Books.{book_sound, has_word, members_before, read_book, rules_before, word_of, words_in};
+ghost use Rattle.words.specs.Runs.{seen_book, words_left};
+ghost use Rattle.words.specs.Books.{book_sound, has_word, members_before, read_book, rules_before, word_of, words_in, words_of};
 
 use crate::book_run::BookRun;
-use crate::book_run::check::{stands, tally_words, wrong_word};
+use crate::book_run::check::wrong_word;
+use crate::book_run::words::Words;
 use crate::fault::WordFault;
-use crate::member::Member;
-use crate::sought::Sought;
+use crate::in_word::InWord;
+use crate::member::{Member, is_member};
+use crate::rule::is_rule;
 use crate::tally::Tally;
 use crate::word::{WORD_LEN, word_at};
-
-// What follows the first `at` octets.
-fn rest(octets: &[u8], at: usize) -> &[u8]
-    ensures { result.now ≡ drop at octets.now }
-{
-    if at <= octets.len() {
-        octets.split_at(at).1
-    } else {
-        octets.split_at(octets.len()).1
-    }
-}
 
 impl<'a> BookRun<'a> {
     // The book that begins at the octet `at` of a frame and ends with it.
@@ -29,7 +20,7 @@ impl<'a> BookRun<'a> {
         ensures reads { seen_book result ≡ read_book frame.now at }
         ensures place { IfOk result (λ b. b.place ≡ at) }
     {
-        let octets = rest(frame, at);
+        let octets = frame.get(at..).unwrap_or(&[]);
         match wrong_word(octets) {
             None => Ok(BookRun { octets, place: at }),
             Some(k) => Err(WordFault {
@@ -44,14 +35,18 @@ impl<'a> BookRun<'a> {
         self.octets.len() / WORD_LEN
     }
 
+    // Its words, in their order.
+    pub fn iter(&self) -> Words<'a>
+        ensures words { words_left result ≡ words_of self.now.octets.now }
+        ensures count { length (words_left result) ≡ words_in self.now.octets.now }
+    {
+        Words::of(self.octets)
+    }
+
     pub fn word(&self, k: usize) -> Option<u32>
         ensures { result ≡ (if nat_lt k (words_in self.now.octets.now) then Some (word_of self.now.octets.now k) else None) }
     {
-        if k < self.words() {
-            Some(word_at(self.octets, WORD_LEN * k))
-        } else {
-            None
-        }
+        word_at(self.octets, WORD_LEN.checked_mul(k)?)
     }
 
     // How many members and rules it has.
@@ -59,7 +54,10 @@ impl<'a> BookRun<'a> {
         ensures members { result.members ≡ members_before self.now.octets.now (words_in self.now.octets.now) }
         ensures rules { result.rules ≡ rules_before self.now.octets.now (words_in self.now.octets.now) }
     {
-        tally_words(self.octets)
+        Tally {
+            members: self.iter().filter(|w| is_member(*w)).count(),
+            rules: self.iter().filter(|w| is_rule(*w)).count(),
+        }
     }
 
     // Whether the octets are a book.
@@ -74,6 +72,7 @@ impl<'a> BookRun<'a> {
     pub fn has(&self, member: &Member) -> bool
         ensures { result ≡ has_word self.now.octets.now (member_word member.now) }
     {
-        stands(self.octets, self.words(), Sought::Exactly(member.to_word()))
+        let sought = member.to_word();
+        self.iter().any(|w| w == sought)
     }
 }

@@ -6,7 +6,7 @@ ghost use Rattle.words.specs.Heads.{content_length, context_stands, context_word
 use crate::fault::WordFault;
 use crate::head::MessageHead;
 use crate::message_kind::MessageKind;
-use crate::word::{LAST_SUBJECT, kind_of, number_of, role_of, tail_of, word};
+use crate::word::{KIND_STEP, LAST_SUBJECT, WORD_LEN, kind_of, number_of, role_of, tail_of, word};
 
 const SENDER_KIND: u8 = 13;
 
@@ -16,32 +16,29 @@ const PRIORITY_STEP: u32 = 65_536;
 
 const PRIORITIES: u32 = 16;
 
-const CONTEXTS: u32 = 268_435_456;
-
-const LAST_PRIORITY: u8 = 15;
+// A context has every bit below the kind.
+const CONTEXTS: u32 = KIND_STEP;
 
 impl MessageKind {
     // The kind of the message's first word.
     pub fn number(&self) -> u8
         ensures { result ≡ kind_number self.now }
     {
-        match self {
-            MessageKind::Published => 8,
-            MessageKind::Announced => 9,
-            MessageKind::Private => 10,
-        }
+        *self as u8
     }
 
-    // The kind of message that begins with this word.
+    // The kind of message that begins with this word; `try_from` a number would not say that it is a word. A trait for
+    // what seeks a variant by its number would be longer than the line.
     pub fn of_word(w: u32) -> Option<MessageKind>
         ensures { result ≡ message_kind (kind_of w) }
     {
-        match kind_of(w) {
-            8 => Some(MessageKind::Published),
-            9 => Some(MessageKind::Announced),
-            10 => Some(MessageKind::Private),
-            _ => None,
-        }
+        [
+            MessageKind::Published,
+            MessageKind::Announced,
+            MessageKind::Private,
+        ]
+        .into_iter()
+        .find(|kind| kind.number() == kind_of(w))
     }
 }
 
@@ -56,7 +53,7 @@ impl MessageHead {
             && self.subject <= LAST_SUBJECT
             && self.sender >= 1
             && self.priority >= 1
-            && self.priority <= LAST_PRIORITY
+            && u32::from(self.priority) < PRIORITIES
             && self.context < CONTEXTS
     }
 
@@ -67,8 +64,8 @@ impl MessageHead {
         [
             word(self.kind.number(), self.receiver, self.role, self.subject),
             word(SENDER_KIND, self.sender, 0, 0)
-                + self.priority as u32 * PRIORITY_STEP
-                + length as u32,
+                + u32::from(self.priority) * PRIORITY_STEP
+                + u32::from(length),
             word(CONTEXT_KIND, 0, 0, 0) + self.context % CONTEXTS,
         ]
     }
@@ -82,10 +79,12 @@ impl MessageHead {
             return Err(WordFault { place: 0 });
         }
         if !sender_stands(b) {
-            return Err(WordFault { place: 4 });
+            return Err(WordFault { place: WORD_LEN });
         }
         if !context_stands(c) {
-            return Err(WordFault { place: 8 });
+            return Err(WordFault {
+                place: 2 * WORD_LEN,
+            });
         }
         Ok(MessageHead {
             kind,

@@ -4,7 +4,8 @@ ghost use Rattle.words.specs.Records.{id_of, read_module, valid_module};
 
 use crate::module_id::ModuleId;
 
-const UNIT: u32 = 0;
+// All modules are of this unit.
+pub const UNIT: u8 = 0;
 
 const UNIT_STEP: u32 = 256;
 
@@ -23,24 +24,21 @@ impl ModuleId {
     pub fn to_reference(&self) -> u32
         ensures { result ≡ id_of self.now }
     {
-        self.number as u32 + UNIT_STEP * UNIT + ROLE_STEP * self.role as u32
+        u32::from(self.number) + UNIT_STEP * u32::from(UNIT) + ROLE_STEP * u32::from(self.role)
     }
 
-    // The module that a reference names, if it is a Module ID of unit 0.
+    // The module that a reference names, if it is a Module ID of unit 0; `try_from` a number would not say that it is a
+    // reference.
     pub fn from_reference(reference: u32) -> Option<ModuleId>
         ensures { result ≡ read_module reference }
     {
-        if reference / UNIT_STEP % UNITS != UNIT {
+        if reference / UNIT_STEP % UNITS != u32::from(UNIT) {
             return None;
         }
         let module = ModuleId {
             number: (reference % UNIT_STEP) as u8,
             role: (reference / ROLE_STEP) as u8,
         };
-        if module.is_valid() {
-            Some(module)
-        } else {
-            None
-        }
+        module.is_valid().then_some(module)
     }
 }

@@ -1,14 +1,12 @@
--- The laws of words, by their proofs.
-use Rattle.words.proofs.Trips.{member_trip, applicant_trip, rule_trip, reason_trip, module_trip, head_trip, word_order}
+-- The laws of words that are not found, by their proofs.
+use Rattle.words.proofs.Trips.{member_trip, applicant_trip, head_trip}
 use Rattle.words.proofs.laws.word_laws.Goals as goal
 
-pub returns : goal.returns
-returns c = record {
-  members = member_trip;
-  applicants = applicant_trip;
-  rules = rule_trip;
-  reasons = reason_trip;
-  modules = module_trip;
-  heads = head_trip;
-  order = word_order;
-}
+pub returns-clause-members : goal.returns-clause-members
+returns-clause-members c = member_trip
+
+pub returns-clause-applicants : goal.returns-clause-applicants
+returns-clause-applicants c = applicant_trip
+
+pub returns-clause-heads : goal.returns-clause-heads
+returns-clause-heads c = head_trip
