@@ -1,9 +1,9 @@
 -- Both laws of frames, for messages and Meta-AMS frames together. Assumes nothing.
-use Rattle.std.proofs.Common.{◌≡◌, ℕ, ◌+◌, ◌<◌, ◌≤◌, true, false, ◌&&◌, eqb, ltb, leb, List, [], ◌∷◌, length, drop, IfOk, Some, None, Ok, Err, Option, Result, sym, refl, ap, ◌∙◌, ⊎_elim, arith}
+use Rattle.std.proofs.Common.{◌≡◌, ℕ, ◌+◌, ◌≤◌, true, false, ◌&&◌, eqb, ltb, leb, List, [], ◌∷◌, length, drop, IfOk, Some, None, Ok, Err, Option, Result, sym, refl, ap, ◌∙◌, ⊎_elim, arith}
 use Rattle.std.proofs.lemmas.List.{length-drop}
-use Rattle.std.proofs.lemmas.Bool.{cases_Bool, eqb-true, leb-true, le-ltb, lt-ltb, and_parts, and_from}
+use Rattle.std.proofs.lemmas.Bool.{cases_Bool, eqb-true, leb-true, leb-false, le-ltb, lt-ltb, and_parts, and_from}
+use Rattle.std.proofs.lemmas.Bool.Decides.{nat_tests}
 use Rattle.words.specs.declared.message_kind.MessageKind.{MessageKind}
-use Rattle.words.specs.declared.message_kind.MessageKind.TheVariants.{Published, Announced, Private}
 use Rattle.words.specs.Words.{word_at, kind_of, word_octets}
 use Rattle.words.specs.Heads.{kind_number, message_kind, receiver_word, sender_word, context_word, content_length, read_head}
 use Rattle.words.proofs.Trips.{head_trip}
@@ -21,16 +21,7 @@ use Rattle.wire.proofs.Inverts.{passed, then_ok, up_ok, ok_is}
 use Rattle.wire.proofs.Inverse.{meta_inverse}
 
 kind_found : (n : ℕ) (k : MessageKind) → message_kind n ≡ Some k → n ≡ kind_number k
-kind_found n k e =
-    ⊎_elim (λ (a : eqb n 8 ≡ true). let f : Some Published ≡ Some k = rw a at e in let g : Published ≡ k = cc in rw (← g) (eqb-true n 8 a))
-    (λ (a : eqb n 8 ≡ false).
-    ⊎_elim (λ (b : eqb n 9 ≡ true). let f : Some Announced ≡ Some k = rw (a, b) at e in let g : Announced ≡ k = cc in rw (← g) (eqb-true n 9 b))
-    (λ (b : eqb n 9 ≡ false).
-    ⊎_elim (λ (c : eqb n 10 ≡ true). let f : Some Private ≡ Some k = rw (a, b, c) at e in let g : Private ≡ k = cc in rw (← g) (eqb-true n 10 c))
-    (λ (c : eqb n 10 ≡ false). let f : None ≡ Some k = rw (a, b, c) at e in let z : ◌≡◌ {A = ℕ} 0 1 = cc in absurd (omega arith))
-    (cases_Bool (eqb n 10)))
-    (cases_Bool (eqb n 9)))
-    (cases_Bool (eqb n 8))
+kind_found n k e = grind (arith, nat_tests)
 
 three_words : (xs : List ℕ) → Octets xs → 12 ≤ length xs → word_octets (word_at xs 0) (word_octets (word_at xs 4) (word_octets (word_at xs 8) (drop 12 xs))) ≡ xs
 three_words xs o l = rw (word_then xs 8 o l, word_then xs 4 o (omega arith)) (word_then xs 0 o (omega arith))
@@ -59,7 +50,7 @@ in_inverse xs k v o l i e =
 
 by_inverse : (xs : List ℕ) (v : FrameV) (m : Option MessageKind) → message_kind (kind_of (word_at xs 0)) ≡ m → Octets xs → 12 ≤ length xs → message_by xs m ≡ Ok v
     → (write v ≡ xs) × (carried v ≡ true)
-by_inverse xs v None i o l e = let z : ◌≡◌ {A = ℕ} 0 1 = cc in absurd (omega arith)
+by_inverse xs v None i o l e = cc
 by_inverse xs v (Some k) i o l e = in_inverse xs k v o l (kind_found _ k i) e
 
 message_inverse : (xs : List ℕ) (v : FrameV) → Octets xs → read_message xs ≡ Ok v → (write v ≡ xs) × (carried v ≡ true)
@@ -80,15 +71,22 @@ written_read xs v o e = (both xs v o e).0
 pub read-carried : ReadCarried
 read-carried xs v o e = (both xs v o e).1
 
-pub read_is_message : (xs : List ℕ) → 128 ≤ octet xs 0 → read xs ≡ read_message xs
+pub message_reads : (xs : List ℕ) (r : Result Frame FrameFault) → leb 128 (octet xs 0) ≡ true → seen r ≡ read_message xs → seen r ≡ read xs
 unfolding read
-read_is_message xs h = rw (le-ltb (octet xs 0) 128 h)
+message_reads xs r h e = rw (le-ltb (octet xs 0) 128 (leb-true 128 (octet xs 0) h)) e
 
-pub read_is_meta : (xs : List ℕ) → octet xs 0 < 128 → read xs ≡ read_meta xs
+pub meta_reads : (xs : List ℕ) (r : Result Frame FrameFault) → leb 128 (octet xs 0) ≡ false → seen r ≡ read_meta xs → seen r ≡ read xs
 unfolding read
-read_is_meta xs h = rw (lt-ltb (octet xs 0) 128 h)
+meta_reads xs r h e = rw (lt-ltb (octet xs 0) 128 (leb-false 128 (octet xs 0) h)) e
 
 -- what holds of a frame that was read
-pub back_of : (xs : List ℕ) (r : Result Frame FrameFault) → Octets xs → seen r ≡ read xs → IfOk r (λ f. (write (value f) ≡ xs) × (carried (value f) ≡ true))
-back_of xs (Ok f) o e = both xs (value f) o (sym e)
-back_of xs (Err f) o e = tt
+back_of : (xs : List ℕ) (r : Result Frame FrameFault) (s : Result FrameV FrameFault) → ((v : FrameV) → s ≡ Ok v → (write v ≡ xs) × (carried v ≡ true)) → seen r ≡ s
+    → IfOk r (λ f. (write (value f) ≡ xs) × (carried (value f) ≡ true))
+back_of xs (Ok f) s h e = h (value f) (sym e)
+back_of xs (Err f) s h e = tt
+
+pub message_written : (xs : List ℕ) → Octets xs → (r : Result Frame FrameFault) → seen r ≡ read_message xs → IfOk r (λ f. (write (value f) ≡ xs) × (carried (value f) ≡ true))
+message_written xs o r e = back_of xs r (read_message xs) (λ v. message_inverse xs v o) e
+
+pub meta_written : (xs : List ℕ) → Octets xs → (r : Result Frame FrameFault) → seen r ≡ read_meta xs → IfOk r (λ f. (write (value f) ≡ xs) × (carried (value f) ≡ true))
+meta_written xs o r e = back_of xs r (read_meta xs) (λ v. meta_inverse xs v o) e

@@ -1,36 +1,16 @@
 -- Octets as digits of base 256. Assumes nothing.
-use Rattle.std.proofs.Common.{◌≡◌, ℕ, ◌+◌, ◌*◌, ◌/◌, ◌%◌, ◌<◌, ◌≤◌, List, [], ◌∷◌, length, drop, refl, add-zero, mod-eq_of_lt, arith}
-use native.Mathlib.Nat.{div-div-eq-div-mul}
-use Rattle.std.proofs.lemmas.Nat.{div-add-mod', div_below}
+use Rattle.std.proofs.Common.{◌≡◌, ℕ, ◌+◌, ◌*◌, ◌/◌, ◌%◌, ◌<◌, ◌≤◌, List, [], ◌∷◌, length, drop, add-zero, zero-add, arith}
+use Rattle.std.proofs.lemmas.Nat.{from_be_bytes-to_be_bytes_4, from_be_bytes-to_be_bytes_8}
 use Rattle.std.proofs.lemmas.List.{length-drop, get_or-drop, drop-drop, drop_all}
 use Rattle.words.specs.Words.{word_at, word_octets}
 use Rattle.wire.specs.Laws.{Octets}
 
--- one digit more
-digit : (w k j : ℕ) → j ≡ k * 256 → w / j * 256 + w / k % 256 ≡ w / k
-digit w k j e = rw e (rw (← div-div-eq-div-mul w k 256) (div-add-mod' (w / k) 256))
-
-join : (w a b c d x y z : ℕ) → a * 256 + x ≡ w → b * 256 + y ≡ a → c * 256 + z ≡ b → d ≡ c → d * 16777216 + z * 65536 + y * 256 + x ≡ w
-join w a b c d x y z h i j k = omega arith
-
-top : (w k n : ℕ) → 0 < k → w < n * k → (w / k) % n ≡ w / k
-top w k n p h = mod-eq_of_lt (div_below w k n p h)
-
 pub word_back : (w : ℕ) → w < 4294967296 → (w / 16777216 % 256) * 16777216 + (w / 65536 % 256) * 65536 + (w / 256 % 256) * 256 + w % 256 ≡ w
-word_back w h =
-    join w (w / 256) (w / 65536) (w / 16777216) _ _ _ _ (div-add-mod' w 256) (digit w 256 65536 refl) (digit w 65536 16777216 refl)
-    (top w 16777216 256 (omega arith) h)
-
-five : (w a b d x y z e : ℕ) → a * 16777216 + z * 65536 + y * 256 + x ≡ w → b * 256 + d ≡ a → e ≡ b
-    → e * 4294967296 + (d * 16777216 + z * 65536 + y * 256 + x) ≡ w
-five w a b d x y z e h i k = omega arith
+word_back w h = from_be_bytes-to_be_bytes_4 w h
 
 pub time_back : (w : ℕ) → w < 1099511627776
     → (w / 4294967296 % 256) * 4294967296 + ((w / 16777216 % 256) * 16777216 + (w / 65536 % 256) * 65536 + (w / 256 % 256) * 256 + w % 256) ≡ w
-time_back w h =
-    five w (w / 16777216) (w / 4294967296) _ _ _ _ _
-    (join w (w / 256) (w / 65536) (w / 16777216) (w / 16777216) _ _ _ (div-add-mod' w 256) (digit w 256 65536 refl) (digit w 65536 16777216 refl) refl)
-    (digit w 16777216 4294967296 refl) (top w 4294967296 256 (omega arith) h)
+time_back w h = omega (arith, from_be_bytes-to_be_bytes_8 w (omega arith))
 
 pub half_back : (n : ℕ) → n < 65536 → (n / 256 % 256) * 256 + n % 256 ≡ n
 half_back n h = omega arith
@@ -51,13 +31,7 @@ first_of h l p q = omega arith
 
 pub word_octets_of : (a b c d : ℕ) → a < 256 → b < 256 → c < 256 → d < 256 → (xs : List ℕ)
     → word_octets (a * 16777216 + b * 65536 + c * 256 + d) xs ≡ a ∷ b ∷ c ∷ d ∷ xs
-word_octets_of a b c d p q r s xs =
-    let w = a * 16777216 + b * 65536 + c * 256 + d in
-    let e0 : w / 16777216 % 256 ≡ a = omega arith in
-    let e1 : w / 65536 % 256 ≡ b = omega arith in
-    let e2 : w / 256 % 256 ≡ c = omega arith in
-    let e3 : w % 256 ≡ d = omega arith in
-    rw (e0, e1, e2, e3)
+word_octets_of a b c d p q r s xs = rw zero-add at (octets_of 0 a b c d p q r s xs)
 
 pub word_below : (xs : List ℕ) (i : ℕ) → Octets xs → word_at xs i < 4294967296
 word_below xs i o = omega (arith, o i, o (i + 1), o (i + 2), o (i + 3))

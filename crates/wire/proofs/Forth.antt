@@ -61,7 +61,7 @@ rejection_back t f y v =
 
 some_if : (b : Bool) (x m : ModuleId) → cond b (Some x) None ≡ Some m → (b ≡ true) × (x ≡ m)
 some_if true x m e = (refl, cc)
-some_if false x m e = let z : ◌≡◌ {A = ℕ} 0 1 = cc in absurd (omega arith)
+some_if false x m e = cc
 
 dead_back : (t : ℕ) (m : ModuleId) → carried (you_are_dead t m) ≡ true → read (write (you_are_dead t m)) ≡ Ok (you_are_dead t m)
 dead_back t m v =
@@ -71,8 +71,8 @@ dead_back t m v =
 
 same_kind_is : (a b : RuleKind) → same_kind a b ≡ true → a ≡ b
 same_kind_is Subscription Subscription e = refl
-same_kind_is Subscription Invitation e = let z : ◌≡◌ {A = ℕ} 0 1 = cc in absurd (omega arith)
-same_kind_is Invitation Subscription e = let z : ◌≡◌ {A = ℕ} 0 1 = cc in absurd (omega arith)
+same_kind_is Subscription Invitation e = cc
+same_kind_is Invitation Subscription e = cc
 same_kind_is Invitation Invitation e = refl
 
 abbrev own_header : MetaType → RuleChange → Header

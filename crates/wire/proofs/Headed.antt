@@ -1,9 +1,10 @@
 -- The header, both ways. Assumes nothing.
-use Rattle.std.proofs.Common.{◌≡◌, ℕ, ◌+◌, ◌/◌, ◌%◌, ◌<◌, ◌≤◌, true, false, eqb, ltb, List, [], ◌∷◌, ◌++◌, map, length, get_or, take, drop, Some, None, Ok, Option, sym, refl, ⊎_elim, arith}
+use Rattle.std.proofs.Common.{◌≡◌, ℕ, ◌+◌, ◌/◌, ◌%◌, ◌<◌, ◌≤◌, true, eqb, ltb, List, [], ◌∷◌, ◌++◌, map, length, get_or, take, drop, Some, None, Ok, Option, sym, refl, ap, arith}
 use Rattle.std.specs.List.{range_with_len}
 use Rattle.std.proofs.lemmas.List.FromFn.{fill_by_all}
 use Rattle.std.proofs.lemmas.List.{length-drop, length-take-le, get_or-take, take-append-drop}
-use Rattle.std.proofs.lemmas.Bool.{eq-eqb, eqb-true, leb-true, lt-ltb, and_parts, cases_Bool}
+use Rattle.std.proofs.lemmas.Bool.{eq-eqb, eqb-true, leb-true, lt-ltb, and_parts}
+use Rattle.std.proofs.lemmas.Bool.Decides.{nat_tests}
 use Rattle.words.specs.Words.{word_at}
 use Rattle.wire.specs.declared.meta_type.MetaType.{MetaType}
 use Rattle.wire.specs.declared.meta_type.MetaType.TheVariants.{Rejection, YouAreDead, Invite, Disinvite, ModuleRegistration, YouAreIn, IAmStarting, Subscribe, Unsubscribe, IAmStopping, CellStatus}
@@ -32,11 +33,8 @@ type_back CellStatus = refl
 
 -- a type found among those listed has the number that was sought
 number_back : (ks : List MetaType) (n : ℕ) (k : MetaType) → numbered ks n ≡ Some k → type_number k ≡ n
-number_back [] n k e = let z : ◌≡◌ {A = ℕ} 0 1 = cc in absurd (omega arith)
-number_back (j ∷ ks) n k e =
-    ⊎_elim (λ (h : eqb n (type_number j) ≡ true). let f : Some j ≡ Some k = rw h at e in let g : j ≡ k = cc in rw (← g) (sym (eqb-true n (type_number j) h)))
-    (λ (h : eqb n (type_number j) ≡ false). number_back ks n k (rw h at e))
-    (cases_Bool (eqb n (type_number j)))
+number_back [] n k e = cc
+number_back (j ∷ ks) n k e = let i = number_back ks n k in grind (arith, nat_tests, i)
 
 type_small : (k : MetaType) → type_number k < 32
 type_small Rejection = omega arith
@@ -59,7 +57,7 @@ header_back k r f t xs n l p q =
     let s : supplement ys ≡ length xs = half_back (length xs) l in
     let m : eqb (length ys) (18 + length xs) ≡ true = eq-eqb (length ys) (18 + length xs) (omega arith) in
     let c : passing (header_checks ys k) ≡ Ok tt = rw (s, n, m) in
-    header_some ys k f t (omega arith) (type_small k) (type_back k) c (sym (word_back f p)) (sym (time_back t q))
+    header_some ys k f t (omega arith) (type_small k) (ap typed (type_back k)) c (sym (word_back f p)) (sym (time_back t q))
 
 pub meta_back : (k : MetaType) (r f t : ℕ) (xs : List ℕ) → length_right k (length xs) ≡ true → length xs < 65536 → f < 4294967296 → t < 1099511627776
     → read (header_octets (header k r f t) (length xs) xs) ≡ by_type k (header_octets (header k r f t) (length xs) xs) (header k r f t)
@@ -101,8 +99,8 @@ split xs k o l e q =
     (rw (e1, e2, e3, e5, e12) at (front 18 xs l))
 
 typed_ok : (o : Option MetaType) (k : MetaType) → typed o ≡ Ok k → o ≡ Some k
-typed_ok (Some j) k e = let h : j ≡ k = cc in rw h
-typed_ok None k e = let z : ◌≡◌ {A = ℕ} 0 1 = cc in absurd (omega arith)
+typed_ok (Some j) k e = cc
+typed_ok None k e = cc
 
 pub header_inverse : (xs : List ℕ) (h : Header) → Octets xs → read_header xs ≡ Ok h → HeaderRead xs h
 header_inverse xs h o e =

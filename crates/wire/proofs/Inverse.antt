@@ -134,7 +134,7 @@ module _ (xs : List ℕ) (h : Header) (o : Octets xs) (hr : HeaderRead xs h) whe
     where
       placed_ok : (ys : List ℕ) (n : ℕ) (w : Option ℕ) → wrong_word ys ≡ w → placed ys n w ≡ Ok b → (b ≡ ys) × (book_sound b ≡ true)
       placed_ok ys n None f g = let i : ys ≡ b = cc in (sym i, rw (← i) (ap is_none f))
-      placed_ok ys n (Some k) f g = let z : ◌≡◌ {A = ℕ} 0 1 = cc in absurd (omega arith)
+      placed_ok ys n (Some k) f g = cc
 
   in_inverse : (v : FrameV) → h.kind ≡ YouAreIn → read_you_are_in xs h ≡ Ok v → Inverse xs h v
   in_inverse v k e =

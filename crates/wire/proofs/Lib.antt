@@ -1,6 +1,6 @@
 -- Lemmas of this crate.
 pub mod Reading
-pub mod Overs
+pub mod Framed
 pub mod Digits
 pub mod Inverts
 pub mod Headed

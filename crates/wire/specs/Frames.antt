@@ -4,7 +4,8 @@
 --     seen r              what reading answered, as a value
 --     place_of f          the place in the frame at which its book or content begins, 0 if it has none
 --     home v              where the type has it
-use Rattle.std.specs.Prelude.{ℕ, List, Ok, Err, Result}
+--     Gives r v           reading answered r, whose value is v, and its book or content begins where the type has it
+use Rattle.std.specs.Prelude.{◌≡◌, ℕ, List, Ok, Err, Result, IfOk}
 use Rattle.words.specs.declared.member.Member.{Member}
 use Rattle.words.specs.declared.applicant.Applicant.{Applicant}
 use Rattle.words.specs.declared.module_id.ModuleId.{ModuleId}
@@ -74,3 +75,6 @@ home (unsubscribe c) = 0
 home (i_am_stopping t m) = 0
 home (cell_status t b) = 18
 home (message h b) = 12
+
+abbrev pub Gives : Result Frame FrameFault → Result FrameV FrameFault → Type 0
+Gives r v = (seen r ≡ v) × IfOk r (λ f. place_of f ≡ home (value f))

@@ -2,8 +2,8 @@
 pub mod Faults
 pub mod Checks
 pub mod Types
+pub mod Names
 pub mod Headers
-pub mod Buffers
 pub mod Frames
 pub mod Reads
 pub mod Writes

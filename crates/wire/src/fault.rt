@@ -1,6 +1,7 @@
 // Faults of reading and refusals to write.
 ghost use Rattle.std.specs.Prelude.{◌≡◌};
-ghost use Rattle.wire.specs.Faults.{fault_of, layer_number, write_fault_of};
+ghost use Rattle.wire.specs.Faults.{code, fault_of, layer_number, write_fault_of};
+ghost use Rattle.wire.specs.declared.fault.Layer.TheVariants.{Above};
 ghost use Rattle.wire.specs.declared.fault.FrameFault.TheVariants.{Word as of_word};
 
 use words::WordFault;
@@ -8,13 +9,13 @@ use words::WordFault;
 // Where a fault arose.
 #[derive(Clone, Copy, PartialEq, Eq, Debug)]
 pub enum Layer {
-    Word,
-    Frame,
-    Above,
+    Word = 1,
+    Frame = 2,
+    Above = 3,
 }
 
 // What is told of a fault: its number, the octet at which it lies, and its layer.
-#[derive(Clone, Copy)]
+#[derive(Clone, Copy, PartialEq, Eq, Debug)]
 pub struct FaultCode {
     pub number: u8,
     pub place: usize,
@@ -43,13 +44,13 @@ pub enum FrameFault {
     Reference,
 }
 
-// Why a frame is not written.
+// Why a frame is not written. A refused call may have the same numbers: a discriminant is a number, and names no other.
 #[derive(Clone, Copy, PartialEq, Eq, Debug)]
 pub enum WriteFault {
     // The buffer is shorter than the longest frame.
-    ShortBuffer,
+    ShortBuffer = 23,
     // No frame can carry the record.
-    OutOfRange,
+    OutOfRange = 12,
 }
 
 impl From<WordFault> for FrameFault {
@@ -60,15 +61,24 @@ impl From<WordFault> for FrameFault {
     }
 }
 
+impl FaultCode {
+    // Of a refusal: above the frame, at place 0.
+    pub fn above(number: u8) -> FaultCode
+        ensures { result ≡ code number 0 Above }
+    {
+        FaultCode {
+            number,
+            place: 0,
+            layer: Layer::Above,
+        }
+    }
+}
+
 impl Layer {
     pub fn number(&self) -> u8
         ensures { result ≡ layer_number self.now }
     {
-        match self {
-            Layer::Word => 1,
-            Layer::Frame => 2,
-            Layer::Above => 3,
-        }
+        *self as u8
     }
 }
 
@@ -76,6 +86,7 @@ impl FrameFault {
     pub fn code(&self) -> FaultCode
         ensures { result ≡ fault_of self.now }
     {
+        // Several faults have one number, so it can't be the variant's own.
         let (number, place, layer) = match self {
             FrameFault::Short => (1, 0, Layer::Frame),
             FrameFault::Version => (2, 0, Layer::Frame),
@@ -102,14 +113,6 @@ impl WriteFault {
     pub fn code(&self) -> FaultCode
         ensures { result ≡ write_fault_of self.now }
     {
-        let number = match self {
-            WriteFault::ShortBuffer => 23,
-            WriteFault::OutOfRange => 12,
-        };
-        FaultCode {
-            number,
-            place: 0,
-            layer: Layer::Above,
-        }
+        FaultCode::above(*self as u8)
     }
 }

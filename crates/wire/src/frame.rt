@@ -11,7 +11,7 @@ pub struct ContentRun<'a> {
 }
 
 // A member asks that a rule of its own be entered or withdrawn.
-#[derive(Clone, Copy)]
+#[derive(Clone, Copy, PartialEq, Eq, Debug)]
 pub struct RuleChange {
     pub time: u64,
     pub member: Member,

@@ -12,10 +12,16 @@ mod meta_type;
 
 pub use meta_type::MetaType;
 
+// Their names in plain words.
+mod names;
+
 // The header of a Meta-AMS frame.
 mod header;
 
 pub use header::Header;
+
+// A Meta-AMS frame whose header was read.
+mod meta_frame;
 
 // The frame, by type.
 mod frame;
@@ -25,7 +31,9 @@ pub use frame::{ContentRun, Frame, RuleChange};
 // Where the parts of a frame stand.
 mod layout;
 
-// Words and parts of a run of octets, read and written.
+pub use layout::{FIRST_OF_MESSAGES, LONGEST};
+
+// Octets and words put to the start of a buffer.
 mod octets;
 
 // Octets to a frame.

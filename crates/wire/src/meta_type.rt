@@ -1,43 +1,40 @@
 // The eleven types of Meta-AMS frame.
 ghost use Rattle.std.specs.Prelude.{◌≡◌};
 ghost use Rattle.wire.specs.Types.{length_right, type_number, type_of};
+ghost use Rattle.wire.specs.Headers.{typed};
 
-use crate::layout::{BOOK_LEN, WORD_LEN};
+use crate::fault::FrameFault;
+use crate::layout::BOOK_LEN;
+use words::WORD_LEN;
 
-#[derive(Clone, Copy)]
+// Each with its number, the type in the header's first octet.
+#[derive(Clone, Copy, PartialEq, Eq, Debug)]
 pub enum MetaType {
-    Rejection,
-    YouAreDead,
-    Invite,
-    Disinvite,
-    ModuleRegistration,
-    YouAreIn,
-    IAmStarting,
-    Subscribe,
-    Unsubscribe,
-    IAmStopping,
-    CellStatus,
+    Rejection = 2,
+    YouAreDead = 3,
+    Invite = 8,
+    Disinvite = 9,
+    ModuleRegistration = 19,
+    YouAreIn = 20,
+    IAmStarting = 21,
+    Subscribe = 24,
+    Unsubscribe = 25,
+    IAmStopping = 26,
+    CellStatus = 28,
+}
+
+impl TryFrom<u8> for MetaType {
+    type Error = FrameFault;
+
+    ghost try_from_gives = { λ n r. r ≡ typed (type_of n) };
+
+    fn try_from(n: u8) -> Result<MetaType, FrameFault> {
+        MetaType::of_number(n).ok_or(FrameFault::UnknownKind)
+    }
 }
 
 impl MetaType {
-    pub fn number(&self) -> u8
-        ensures { result ≡ type_number self.now }
-    {
-        match self {
-            MetaType::Rejection => 2,
-            MetaType::YouAreDead => 3,
-            MetaType::Invite => 8,
-            MetaType::Disinvite => 9,
-            MetaType::ModuleRegistration => 19,
-            MetaType::YouAreIn => 20,
-            MetaType::IAmStarting => 21,
-            MetaType::Subscribe => 24,
-            MetaType::Unsubscribe => 25,
-            MetaType::IAmStopping => 26,
-            MetaType::CellStatus => 28,
-        }
-    }
-
+    // Sought among the variants by its number it is proved, but the check cannot write that down for the crates above.
     pub fn of_number(n: u8) -> Option<MetaType>
         ensures { result ≡ type_of n }
     {
@@ -57,20 +54,24 @@ impl MetaType {
         }
     }
 
+    pub fn number(&self) -> u8
+        ensures { result ≡ type_number self.now }
+    {
+        *self as u8
+    }
+
     // Whether supplementary data may have this many octets.
     pub(crate) fn allows(&self, length: usize) -> bool
         ensures { result ≡ length_right self.now length }
     {
         match self {
             MetaType::YouAreDead => length == 0,
-            MetaType::Rejection => length == WORD_LEN,
-            MetaType::ModuleRegistration => length == WORD_LEN,
-            MetaType::IAmStarting => length == WORD_LEN,
-            MetaType::IAmStopping => length == WORD_LEN,
-            MetaType::Invite => length == 2 * WORD_LEN,
-            MetaType::Disinvite => length == 2 * WORD_LEN,
-            MetaType::Subscribe => length == 2 * WORD_LEN,
-            MetaType::Unsubscribe => length == 2 * WORD_LEN,
+            MetaType::Rejection
+            | MetaType::ModuleRegistration
+            | MetaType::IAmStarting
+            | MetaType::IAmStopping => length == WORD_LEN,
+            MetaType::Invite | MetaType::Disinvite | MetaType::Subscribe | MetaType::Unsubscribe =>
+                length == 2 * WORD_LEN,
             MetaType::YouAreIn => length >= WORD_LEN
                 && length <= WORD_LEN + BOOK_LEN
                 && length % WORD_LEN == 0,

@@ -1,42 +1,27 @@
-// Words and parts of a run of octets, read and written.
-ghost use Rattle.std.specs.Prelude.{◌≡◌, ◌+◌, ◌*◌, ◌<◌, ◌≤◌, length, drop};
-ghost use Rattle.words.specs.Words.{word_at, words_octets};
-ghost use Rattle.wire.specs.Buffers.{over};
+// Octets and words put to the start of a buffer.
+ghost use Rattle.std.specs.Prelude.{◌≡◌, ◌+◌, ◌*◌, ◌≤◌, ◌++◌, length, drop};
+ghost use Rattle.words.specs.Words.{words_octets};
 
-use crate::layout::WORD_LEN;
-
-// The word whose first octet stands at `at`.
-pub(crate) fn word_at(octets: &[u8], at: usize) -> u32
-    requires { at + 3 < length octets.now }
-    ensures { result ≡ word_at octets.now at }
+// Copies octets to the buffer's start; the answer is how many.
+pub(crate) fn put(buffer: &mut [u8], octets: &[u8]) -> usize
+    requires { length octets.now ≤ length buffer.old }
+    ensures octets { buffer.new ≡ octets.now ++ drop result buffer.old }
+    ensures count { result ≡ length octets.now }
 {
-    u32::from_be_bytes([octets[at], octets[at + 1], octets[at + 2], octets[at + 3]])
+    buffer[..octets.len()].copy_from_slice(octets);
+    octets.len()
 }
 
-// What follows the first `at` octets.
-pub(crate) fn rest(octets: &[u8], at: usize) -> &[u8]
-    requires { at ≤ length octets.now }
-    ensures { result.now ≡ drop at octets.now }
+// Puts words to the buffer's start, one after the other, and octets after them; the answer is how many octets in all. One
+// for this and for books would be public in words, and have to answer for a buffer that is too short.
+pub(crate) fn put_worded(buffer: &mut [u8], words: &[u32], octets: &[u8]) -> usize
+    requires { 4 * length words.now + length octets.now ≤ length buffer.old }
+    ensures octets { buffer.new ≡ (words_octets words.now ++ octets.now) ++ drop result buffer.old }
+    ensures count { result ≡ 4 * length words.now + length octets.now }
 {
-    octets.split_at(at).1
-}
-
-// Copies octets to a place of the buffer.
-pub(crate) fn put(buffer: &mut [u8], at: usize, octets: &[u8])
-    requires { at + length octets.now ≤ length buffer.old }
-    ensures { buffer.new ≡ over buffer.old at octets.now }
-{
-    buffer[at..at + octets.len()].copy_from_slice(octets);
-}
-
-// Writes words to a place of the buffer, one after the other.
-pub(crate) fn put_words(buffer: &mut [u8], at: usize, words: &[u32])
-    requires { at + 4 * length words.now ≤ length buffer.old }
-    ensures { buffer.new ≡ over buffer.old at (words_octets words.now) }
-{
-    let mut place = at;
-    for k in 0..words.len() {
-        put(buffer, place, &words[k].to_be_bytes());
-        place += WORD_LEN;
+    let mut end = 0;
+    for word in words {
+        end += put(&mut buffer[end..], &word.to_be_bytes());
     }
+    end + put(&mut buffer[end..], octets)
 }

@@ -3,7 +3,7 @@ ghost use Rattle.std.specs.Prelude.{◌≡◌, ◌≤◌, true, length, Some};
 ghost use Rattle.words.specs.Records.{id_of, module_of};
 ghost use Rattle.wire.specs.Headers.{header};
 ghost use Rattle.wire.specs.Frames.{value};
-ghost use Rattle.wire.specs.Writes.{carried, change_carried, change_header, header_of, in_time, same_kind, write};
+ghost use Rattle.wire.specs.Writes.{carried, change_carried, change_header, header_of, in_time, write};
 
 use crate::frame::{Frame, RuleChange};
 use crate::header::Header;
@@ -12,8 +12,6 @@ use crate::meta_type::MetaType as Type;
 use words::{Member, RuleKind};
 
 const LAST_TIME: u64 = 1_099_511_627_775;
-// Every reference of 32 bits.
-const LAST_REFERENCE: u32 = 4_294_967_295;
 
 // Whether the time tag has 40 bits.
 fn in_time(time: u64) -> bool
@@ -22,38 +20,27 @@ fn in_time(time: u64) -> bool
     time <= LAST_TIME
 }
 
-fn same_kind(a: RuleKind, b: RuleKind) -> bool
-    ensures { result ≡ same_kind a b }
+fn named(kind: Type, role: u8, reference: u32, time: u64) -> Header
+    ensures { result ≡ header kind role reference time }
 {
-    match (a, b) {
-        (RuleKind::Subscription, RuleKind::Subscription) => true,
-        (RuleKind::Subscription, RuleKind::Invitation) => false,
-        (RuleKind::Invitation, RuleKind::Subscription) => false,
-        (RuleKind::Invitation, RuleKind::Invitation) => true,
-    }
-}
-
-fn named(kind: Type, role: u8, reference: u32, time: u64) -> Option<Header>
-    ensures { result ≡ Some (header kind role reference time) }
-{
-    Some(Header {
+    Header {
         kind,
         role,
         reference,
         time,
-    })
+    }
 }
 
 // With the member's Module ID for a reference.
-fn own(kind: Type, role: u8, member: &Member, time: u64) -> Option<Header>
-    ensures { result ≡ Some (header kind role (id_of (module_of member.now)) time) }
+fn own(kind: Type, role: u8, member: &Member, time: u64) -> Header
+    ensures { result ≡ header kind role (id_of (module_of member.now)) time }
 {
     named(kind, role, member.module().to_reference(), time)
 }
 
 impl RuleChange {
-    fn header(&self, kind: Type) -> Option<Header>
-        ensures { result ≡ change_header kind self.now }
+    fn header(&self, kind: Type) -> Header
+        ensures { Some result ≡ change_header kind self.now }
     {
         own(kind, self.member.role, &self.member, self.time)
     }
@@ -65,7 +52,7 @@ impl RuleChange {
         in_time(self.time)
             && self.member.is_valid()
             && self.rule.is_valid()
-            && same_kind(self.rule.kind, kind)
+            && self.rule.kind == kind
             && self.rule.number == self.member.number
     }
 }
@@ -75,7 +62,7 @@ impl Frame<'_> {
     pub fn header(&self) -> Option<Header>
         ensures { result ≡ header_of (value self.now) }
     {
-        match self {
+        let header = match self {
             Frame::Rejection {
                 time,
                 reference,
@@ -93,18 +80,19 @@ impl Frame<'_> {
                 time,
                 query,
                 applicant,
-            } => { named(Type::ModuleRegistration, applicant.role, *query, *time) }
+            } => named(Type::ModuleRegistration, applicant.role, *query, *time),
             Frame::YouAreIn { time, query, .. } => named(Type::YouAreIn, REGISTRAR, *query, *time),
             Frame::IAmStarting { time, member } => own(Type::IAmStarting, REGISTRAR, member, *time),
             Frame::Subscribe(c) => c.header(Type::Subscribe),
             Frame::Unsubscribe(c) => c.header(Type::Unsubscribe),
             Frame::IAmStopping { time, member: m } => own(Type::IAmStopping, m.role, m, *time),
             Frame::CellStatus { time, .. } => named(Type::CellStatus, REGISTRAR, 0, *time),
-            Frame::Message { .. } => None,
-        }
+            Frame::Message { .. } => return None,
+        };
+        Some(header)
     }
 
-    // Whether a frame can carry the record.
+    // Whether a frame can carry the record; each arm is all that is asked of its type.
     pub fn is_carried(&self) -> bool
         ensures value { result ≡ carried (value self.now) }
         ensures fits { result ≡ true → length (write (value self.now)) ≤ 1012 }
@@ -114,15 +102,18 @@ impl Frame<'_> {
                 time,
                 reference,
                 ..
-            } => in_time(*time) && *reference <= LAST_REFERENCE,
+            } => {
+                // Every reference can be carried.
+                prove!(*reference <= u32::MAX);
+                in_time(*time)
+            }
             Frame::YouAreDead { time, module } => in_time(*time) && module.is_valid(),
-            Frame::Invite(c) => c.is_carried(RuleKind::Invitation),
-            Frame::Disinvite(c) => c.is_carried(RuleKind::Invitation),
+            Frame::Invite(c) | Frame::Disinvite(c) => c.is_carried(RuleKind::Invitation),
             Frame::ModuleRegistration {
                 time,
                 query,
                 applicant,
-            } => { in_time(*time) && *query >= 1 && applicant.is_valid() }
+            } => in_time(*time) && *query >= 1 && applicant.is_valid(),
             Frame::YouAreIn {
                 time,
                 query,
@@ -135,10 +126,10 @@ impl Frame<'_> {
                     && book.is_sound()
                     && book.has(member)
             }
-            Frame::IAmStarting { time, member } => in_time(*time) && member.is_valid(),
-            Frame::Subscribe(c) => c.is_carried(RuleKind::Subscription),
-            Frame::Unsubscribe(c) => c.is_carried(RuleKind::Subscription),
-            Frame::IAmStopping { time, member } => in_time(*time) && member.is_valid(),
+            Frame::IAmStarting { time, member } | Frame::IAmStopping { time, member } => in_time(
+                *time,
+            ) && member.is_valid(),
+            Frame::Subscribe(c) | Frame::Unsubscribe(c) => c.is_carried(RuleKind::Subscription),
             Frame::CellStatus { time, book } => in_time(*time) && book.is_sound(),
             Frame::Message { head, content } => head.is_valid()
                 && content.octets.len() <= MOST_CONTENT,

@@ -11,13 +11,11 @@ use crate::fault::FrameFault;
 use crate::header::Header;
 use crate::layout::HEADER_LEN;
 use crate::meta_type::MetaType;
-use crate::octets::word_at;
+use words::UNIT;
 
 const NO_VERSION_NO_CHECKSUM: u8 = 32;
 
 const VENTURE: u8 = 1;
-
-const UNIT: u8 = 0;
 
 const SIGNATURE_LEN: u8 = 0;
 
@@ -29,6 +27,7 @@ fn check_fields(octets: &[u8], kind: MetaType) -> Result<(), FrameFault>
     ensures checks { result ≡ passing (header_checks octets.now kind) }
     ensures sized { OnOk result (length_right kind (length octets.now - 18) ≡ true) }
 {
+    // By place, as the table above has them, and of the whole frame, as the definition is.
     if octets[1] != VENTURE {
         return Err(FrameFault::Venture);
     }
@@ -41,7 +40,7 @@ fn check_fields(octets: &[u8], kind: MetaType) -> Result<(), FrameFault>
     if octets[12] != TIME_CODE {
         return Err(FrameFault::TimeCode);
     }
-    let supplement = octets[6] as usize * 256 + octets[7] as usize;
+    let supplement = usize::from(u16::from_be_bytes([octets[6], octets[7]]));
     if !kind.allows(supplement) || octets.len() != HEADER_LEN + supplement {
         return Err(FrameFault::SupplementLength);
     }
@@ -52,26 +51,25 @@ pub(crate) fn read_header(octets: &[u8]) -> Result<Header, FrameFault>
     ensures reads { result ≡ read_header octets.now }
     ensures sized { IfOk result (λ h. (length_right h.kind (length octets.now - 18) ≡ true) × (18 ≤ length octets.now)) }
 {
-    if octets.len() < HEADER_LEN {
+    let Some(head) = octets.first_chunk::<HEADER_LEN>() else {
         return Err(FrameFault::Short);
-    }
-    if octets[0] >= NO_VERSION_NO_CHECKSUM {
+    };
+    let [first, _, _, _, role, ..] = *head;
+    let [.., r0, r1, r2, r3, _, t0, t1, t2, t3, t4] = *head;
+    if first >= NO_VERSION_NO_CHECKSUM {
         return Err(FrameFault::Version);
     }
-    let Some(kind) = MetaType::of_number(octets[0]) else {
-        return Err(FrameFault::UnknownKind);
-    };
+    let kind = MetaType::try_from(first)?;
     check_fields(octets, kind)?;
-    let time = octets[13] as u64 * 4_294_967_296 + word_at(octets, 14) as u64;
     Ok(Header {
         kind,
-        role: octets[4],
-        reference: word_at(octets, 8),
-        time,
+        role,
+        reference: u32::from_be_bytes([r0, r1, r2, r3]),
+        time: u64::from_be_bytes([0, 0, 0, t0, t1, t2, t3, t4]),
     })
 }
 
-pub(crate) fn header_octets(h: Header, supplement: u16) -> [u8; 18]
+pub(crate) fn header_octets(h: Header, supplement: u16) -> [u8; HEADER_LEN]
     ensures { result ≡ header_octets h supplement [] }
 {
     let [r0, r1, r2, r3] = h.reference.to_be_bytes();
