@@ -1,28 +1,22 @@
 -- What the words of a run carry, word by word. Assumes nothing.
-use Rattle.std.proofs.Common.{◌≡◌, ℕ, zero, suc, ◌<◌, Bool, true, false, ◌&&◌, ◌||◌, List, [], ◌∷◌, ◌++◌, length, get_or, sym, refl, ap, ◌∙◌, subst, inl, inr, ⊎_elim, arith}
-use Rattle.std.proofs.lemmas.List.{append-nil, get_or_append_left, get_or_push, length_push}
-use Rattle.std.proofs.lemmas.Bool.{cases_Bool, cases_eq, and_parts, and_from}
-use Rattle.words.specs.Books.{count_below, some_below, word_of}
+use Rattle.std.proofs.Common.{◌≡◌, ℕ, zero, suc, ◌<◌, Bool, true, false, ◌&&◌, ◌||◌, List, [], ◌∷◌, ◌++◌, length, map, filter, sym, refl, ap, ◌∙◌, subst, inl, inr, ⊎_elim, arith}
+use Rattle.std.proofs.lemmas.List.{append-nil, length_push}
+use Rattle.std.proofs.Math.Bool.{or-false}
+use Rattle.std.proofs.lemmas.List.{map-append}
+use Rattle.std.proofs.lemmas.List.Elements.{filter-append}
+use Rattle.std.proofs.lemmas.List.Folds.{list_all-append, list_any-append}
+use Rattle.std.proofs.lemmas.Bool.{cases_Bool, cases_eq, and_from}
+use Rattle.words.specs.Books.{count_below, some_below, word_of, words_before}
 use Rattle.book.specs.Sound.{each}
 use Rattle.book.specs.Matching.{some}
 use Rattle.book.specs.Laws.{In}
-use Rattle.book.specs.Octets.{carried, words_before}
+use Rattle.book.specs.Octets.{carried}
 
 pub each_push : {A : Type 0} (q : A → Bool) (xs : List A) (x : A) → each q xs ≡ true → q x ≡ true → each q (xs ++ (x ∷ [])) ≡ true
-each_push q [] x e h = and_from _ _ h refl
-each_push q (y ∷ xs) x e h = let a = and_parts (q y) (each q xs) e in and_from _ _ a.0 (each_push q xs x a.1 h)
-
-or_assoc : (a b c : Bool) → (a || (b || c)) ≡ ((a || b) || c)
-or_assoc true b c = refl
-or_assoc false b c = refl
-
-pub or_none : (a : Bool) → (a || false) ≡ a
-or_none true = refl
-or_none false = refl
+each_push q xs x e h = list_all-append q xs (x ∷ []) ∙ and_from _ _ e (and_from _ _ h refl)
 
 some_push : {A : Type 0} (q : A → Bool) (xs : List A) (x : A) → some q (xs ++ (x ∷ [])) ≡ (some q xs || q x)
-some_push q [] x = or_none (q x)
-some_push q (y ∷ xs) x = ap (λ b. q y || b) (some_push q xs x) ∙ or_assoc (q y) (some q xs) (q x)
+some_push q xs x = list_any-append q xs (x ∷ []) ∙ ap (λ b. some q xs || b) (or-false (q x))
 
 in_front : {A : Type 0} (x : A) (xs ys : List A) → In x xs → In x (xs ++ ys)
 in_front x [] ys i = absurd i
@@ -33,25 +27,9 @@ in_last : {A : Type 0} (x : A) (xs : List A) → In x (xs ++ (x ∷ []))
 in_last x [] = inl refl
 in_last x (y ∷ xs) = inr (in_last x xs)
 
-pub length_before : (xs : List ℕ) (k : ℕ) → length (words_before xs k) ≡ k
-length_before xs zero = refl
-length_before xs (suc k) = length_push (words_before xs k) (word_of xs k) ∙ (let h = length_before xs k in omega arith)
-
-pub word_before : (xs : List ℕ) (k i : ℕ) → i < k → get_or (words_before xs k) i 0 ≡ word_of xs i
-word_before xs zero i h = absurd (omega arith)
-word_before xs (suc k) i h =
-    let n = length_before xs k in
-    ⊎_elim (λ (e : i ≡ k). get_or_push (words_before xs k) (word_of xs k) 0 i (omega arith) ∙ rw e)
-    (λ (e : i ≡ k → ⊥). get_or_append_left (words_before xs k) (word_of xs k ∷ []) 0 i (omega arith) ∙ word_before xs k i (omega arith))
-    (cases_eq i k)
-
 module _ {A : Type 0} (p : ℕ → Bool) (f : ℕ → A) where
   pub carried-append : (vs ws : List ℕ) → carried p f (vs ++ ws) ≡ carried p f vs ++ carried p f ws
-  carried-append [] ws = refl
-  carried-append (v ∷ vs) ws =
-      ⊎_elim (λ (q : p v ≡ true). rw q (ap (λ zs. f v ∷ zs) (carried-append vs ws)))
-      (λ (q : p v ≡ false). rw q (carried-append vs ws))
-      (cases_Bool (p v))
+  carried-append vs ws = ap (λ us. map f us) (filter-append p vs ws) ∙ map-append f (filter p vs) (filter p ws)
 
   pub carried_yes : (ws : List ℕ) (w : ℕ) → p w ≡ true → carried p f (ws ++ (w ∷ [])) ≡ carried p f ws ++ (f w ∷ [])
   carried_yes ws w h = carried-append ws (w ∷ []) ∙ rw h
@@ -91,7 +69,7 @@ module _ {A : Type 0} (p : ℕ → Bool) (f : ℕ → A) where
       let w = word_of xs k in
       step (λ zs. some_below (λ j. s (word_of xs j)) (suc k) ≡ some q zs) xs k
       (λ e. rw (r, h w, e) (sym (some_push q (carried p f (words_before xs k)) (f w))))
-      (λ e. rw (r, h w, e) (or_none (some q (carried p f (words_before xs k)))))
+      (λ e. rw (r, h w, e) (or-false (some q (carried p f (words_before xs k)))))
 
   pub carried_in : (xs : List ℕ) (k j : ℕ) → j < k → p (word_of xs j) ≡ true → In (f (word_of xs j)) (carried p f (words_before xs k))
   carried_in xs zero j l h = absurd (omega arith)

@@ -1,12 +1,12 @@
 -- What a book keeps when members and rules leave it. Assumes nothing.
-use Rattle.std.proofs.Common.{◌≡◌, ℕ, ◌+◌, ◌<◌, ◌≤◌, Bool, true, false, cond, not, ltb, List, [], ◌∷◌, length, filter, sym, refl, ◌∙◌, ⊎_elim, arith}
+use Rattle.std.proofs.Common.{◌≡◌, ℕ, ◌+◌, ◌<◌, ◌≤◌, Bool, true, false, cond, not, ltb, List, [], ◌∷◌, length, filter, Ok, Err, Result, sym, refl, ◌∙◌, ⊎_elim, arith}
 use Rattle.std.proofs.lemmas.Bool.{cases_Bool, and_parts, and_from, or_cases, or_right, not-true, not_from_false, ltb-false, ltb-true, le-ltb, eqb-false}
 use Rattle.std.proofs.lemmas.List.Filters.{length-filter_both}
 use Rattle.table.specs.Ordered.{entered, same, stands, without}
 use Rattle.table.specs.Entries.{after, answer}
-use Rattle.table.proofs.Places.{ascending-entered, ascending_kept}
-use Rattle.table.specs.declared.entry.Entry.{Entry}
-use Rattle.table.specs.declared.entry.Entry.TheVariants.{New, Standing, Full}
+use Rattle.table.proofs.Places.{without_absent, ascending-entered, ascending_kept}
+use Rattle.table.specs.declared.insert_error.InsertError.{InsertError}
+use Rattle.table.specs.declared.insert_error.InsertError.TheVariants.{Standing, Full}
 use Rattle.words.specs.declared.member.Member.{Member}
 use Rattle.words.specs.declared.rule.Rule.{Rule}
 use Rattle.words.specs.Keys.{member_key, rule_key, rule_less}
@@ -99,16 +99,21 @@ rules_gone ms us p s = record {
   few_rules = few_kept p 200 us s.few_rules;
 }
 
+-- where no such rule stands, none goes
+pub gone_or_so : (b : Bool) (u : Rule) (us vs : List Rule) → b ≡ stands rule_less rule_key (rule_key u) us → vs ≡ without rule_less rule_key (rule_key u) us → vs ≡ cond b (without rule_less rule_key (rule_key u) us) us
+gone_or_so true u us vs e f = f
+gone_or_so false u us vs e f = f ∙ without_absent rule_order rule_key (rule_key u) us (sym e)
+
 pub sound_of : (b : Book) → Sound (members_of b) (rules_of b)
 sound_of b = record {
-  numbers = b.numbers;
-  rising = b.rising;
+  numbers = b.members.rising;
+  rising = b.rules.rising;
   members_valid = b.members_valid;
   rules_valid = b.rules_valid;
   ports = b.ports;
   owners = b.owners;
-  few_members = omega (arith, b.members.few, b.members.records.ok.0);
-  few_rules = omega (arith, b.rules.few, b.rules.records.ok.0);
+  few_members = b.members.rows.few;
+  few_rules = b.rules.rows.few;
 }
 
 -- the lists that the code holds, by what they are
@@ -143,19 +148,18 @@ rule_entered ms us u s h o a l = record {
   few_rules = omega (arith, length-entered rule_less rule_key u us);
 }
 
-entry_new : (a b : Bool) → New ≡ cond a Standing (cond b New Full) → (a ≡ false) × (b ≡ true)
+entry_new : (a b : Bool) → ◌≡◌ {A = Result (Unit {0}) InsertError} (Ok tt) (cond a (Err Standing) (cond b (Ok tt) (Err Full))) → (a ≡ false) × (b ≡ true)
 entry_new false true e = (refl, refl)
 entry_new false false e = let z : ◌≡◌ {A = ℕ} 0 1 = cc in absurd (omega arith)
 entry_new true b e = let z : ◌≡◌ {A = ℕ} 0 1 = cc in absurd (omega arith)
 
 -- where a rule is new, it did not stand and there is room for it
-pub new_rule : (us : List Rule) (u : Rule) → New ≡ answer rule_less rule_key 200 u us → (stands rule_less rule_key (rule_key u) us ≡ false) × (length us < 200)
+pub new_rule : (us : List Rule) (u : Rule) → Ok tt ≡ answer rule_less rule_key 200 u us → (stands rule_less rule_key (rule_key u) us ≡ false) × (length us < 200)
 new_rule us u e =
     let p = entry_new (stands rule_less rule_key (rule_key u) us) (ltb (length us) 200) e in
     (p.0, ltb-true (length us) 200 p.1)
 
-pub rule_put : (ms : List Member) (us vs : List Rule) (r : Entry) (u : Rule) → Sound ms us → valid_rule u ≡ true → holds u.number ms ≡ true
+pub rule_put : (ms : List Member) (us vs : List Rule) (r : Result (Unit {0}) InsertError) (u : Rule) → Sound ms us → valid_rule u ≡ true → holds u.number ms ≡ true
     → r ≡ answer rule_less rule_key 200 u us → vs ≡ after r (entered rule_less rule_key u us) us → Sound ms vs
-rule_put ms us vs New u s h o e f = let n = new_rule us u e in sound_as ms ms (entered rule_less rule_key u us) vs refl f (rule_entered ms us u s h o n.0 n.1)
-rule_put ms us vs Standing u s h o e f = sound_as ms ms us vs refl f s
-rule_put ms us vs Full u s h o e f = sound_as ms ms us vs refl f s
+rule_put ms us vs (Ok tt) u s h o e f = let n = new_rule us u e in sound_as ms ms (entered rule_less rule_key u us) vs refl f (rule_entered ms us u s h o n.0 n.1)
+rule_put ms us vs (Err r) u s h o e f = sound_as ms ms us vs refl f s

@@ -1,9 +1,7 @@
 -- Lemmas of this crate.
 pub mod Orders
 pub mod Keeping
-pub mod Seats
 pub mod Cycle
-pub mod Somes
 pub mod Ports
 pub mod Seating
 pub mod Recipients

@@ -1,16 +1,17 @@
 -- A member stands exactly so where it is in the list, and where its word is in the run. Assumes nothing.
 use Rattle.std.proofs.Common.{◌≡◌, ℕ, true, false, eqb, ltb, List, [], ◌∷◌, sym, refl, ◌∙◌, ⊎_elim, arith}
+use Rattle.std.proofs.Math.Bool.{or-false}
 use Rattle.std.proofs.lemmas.Bool.{and_left, and_parts, cases_Bool, ltb-true, ne_eqb, or_from}
 use Rattle.table.specs.Ordered.{above, ascending, same}
 use Rattle.words.specs.declared.member.Member.{Member}
 use Rattle.words.specs.Books.{has_word, words_in}
 use Rattle.words.specs.Keys.{member_key}
-use Rattle.words.specs.Records.{is_member, member_word, valid_member}
+use Rattle.words.specs.Records.{is_member, member_in, member_word, valid_member}
 use Rattle.book.specs.Asked.{same_member, stands_so}
 use Rattle.book.specs.Laws.{In}
 use Rattle.book.specs.Matching.{some}
-use Rattle.book.specs.Octets.{member_in, members_in}
-use Rattle.book.proofs.Carried.{carried_some, or_none}
+use Rattle.book.specs.Octets.{members_in}
+use Rattle.book.proofs.Carried.{carried_some}
 use Rattle.book.proofs.Fields.{same-is_member, same_member_self, word_tells}
 use Rattle.book.proofs.Keeping.{same_is, same_self}
 use Rattle.book.proofs.Recipients.{in_some, some_in}
@@ -34,7 +35,7 @@ stands_some m (y ∷ ms) r =
     ⊎_elim
     (λ (q : same ltb m.number y.number ≡ true).
     let e : y.number ≡ m.number = sym (same_is m.number y.number q) in
-    rw (q, none_above m y.number ms e p.0) (sym (or_none (same_member y m))))
+    rw (q, none_above m y.number ms e p.0) (sym (or-false (same_member y m))))
     (λ (q : same ltb m.number y.number ≡ false).
     let d : y.number ≡ m.number → ⊥ = λ e. let t = same_self m.number y.number (sym e) in let z : ◌≡◌ {A = ℕ} 0 1 = cc in omega arith in
     rw (q, other_number m y d) (stands_some m ms p.1))

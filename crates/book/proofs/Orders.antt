@@ -1,6 +1,7 @@
 -- The orders of numbers and of words, and the order of members and rules by their words. Assumes nothing.
-use Rattle.std.proofs.Common.{◌≡◌, ℕ, ◌<◌, ◌≤◌, Bool, true, false, ◌&&◌, ◌||◌, eqb, ltb, leb, sym, refl, ◌∙◌, ⊎_elim, arith}
+use Rattle.std.proofs.Common.{◌≡◌, ℕ, ◌<◌, ◌≤◌, true, ltb, leb, sym, ◌∙◌, ⊎_elim, arith}
 use Rattle.std.proofs.lemmas.Bool.{and_parts, cases_lt, le-ltb, leb-true, lt-ltb, ltb-false, ltb-true}
+use Rattle.std.proofs.Math.Bool.{and-false, or-false}
 use Rattle.table.specs.Ordered.{Order}
 use Rattle.words.specs.declared.member.Member.{Member}
 use Rattle.words.specs.declared.rule.Rule.{Rule}
@@ -46,14 +47,6 @@ member_words_order m n v w d =
     (λ (l : n.number ≤ m.number). le-ltb _ _ l ∙ sym (le-ltb (member_word m) (member_word n) (omega arith)))
     (cases_lt m.number n.number)
 
-no_more : (b : Bool) → (b && false) ≡ false
-no_more true = refl
-no_more false = refl
-
-or_no_more : (a b : Bool) → (a || (b && false)) ≡ a
-or_no_more true b = refl
-or_no_more false b = no_more b
-
 -- rules are in the order of their words
 pub rule_words_order : (u v : Rule) → valid_rule u ≡ true → valid_rule v ≡ true → rule_less (rule_key u) (rule_key v) ≡ ltb (rule_word u) (rule_word v)
 rule_words_order u v a b =
@@ -69,4 +62,4 @@ rule_words_order u v a b =
     let nv = number_back l v.number v.role v.subject (omega arith) (omega arith) (omega arith) in
     let rv = role_back l v.number v.role v.subject (omega arith) (omega arith) (omega arith) in
     let tv = tail_back l v.number v.role v.subject (omega arith) (omega arith) (omega arith) in
-    rw (or_no_more (ltb u.subject v.subject) (eqb u.subject v.subject)) (sym (word_order (rule_word u) (rule_word v) ∙ rw (ku, nu, ru, tu, kv, nv, rv, tv)))
+    rw (and-false, or-false) (sym (word_order (rule_word u) (rule_word v) ∙ rw (ku, nu, ru, tu, kv, nv, rv, tv)))

@@ -4,6 +4,7 @@ use Rattle.std.proofs.lemmas.Bool.{cases_eq, and_parts, eq-eqb, ne_eqb, not-true
 use Rattle.words.specs.Records.{valid_member}
 use Rattle.words.specs.declared.member.Member.{Member}
 use Rattle.words.specs.Books.{count_below}
+use Rattle.words.proofs.Search.{count_at_most}
 use Rattle.book.specs.Sound.{each, other_port, ports_apart}
 use Rattle.book.specs.Matching.{some}
 use Rattle.book.proofs.Orders.{member_ranges}
@@ -22,10 +23,6 @@ one_count f q (suc n) e l =
     ⊎_elim (λ (h : q ≡ n). let g : f n ≡ false = rw h at e in rw (same_count f q n (omega arith), eq-eqb q n h, g) (omega arith))
     (λ (h : q ≡ n → ⊥). rw (one_count f q n e (omega arith), ne_eqb q n h) (omega arith))
     (cases_eq q n)
-
-count_most : (f : ℕ → Bool) (n : ℕ) → count_below f n ≤ n
-count_most f zero = omega arith
-count_most f (suc n) = let h = count_most f n in grind (arith, h)
 
 free_port : (p : ℕ) (ms : List Member) → each (other_port p) ms ≡ true → occupied ms p ≡ false
 free_port p [] h = refl
@@ -59,5 +56,5 @@ room p ms l u h v f =
     let g = one_count (occupied ms) p 16 (free_port p ms f) (omega arith) in
     let z : (eqb p 0 || occupied ms 0) ≡ false = or_from _ _ (ne_eqb p 0 (λ (e : p ≡ 0). omega arith)) (nobody_at_0 ms v) in
     let k = one_count (λ j. eqb p j || occupied ms j) 0 16 z (omega arith) in
-    let m = count_most (λ j. eqb 0 j || (eqb p j || occupied ms j)) 16 in
+    let m = count_at_most (λ j. eqb 0 j || (eqb p j || occupied ms j)) 16 in
     omega (arith, c, g, k, m)

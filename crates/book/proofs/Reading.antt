@@ -5,16 +5,16 @@ use Rattle.std.proofs.lemmas.Bool.{and_from, and_parts, cases_Bool, ne_eqb, not_
 use Rattle.table.specs.Ordered.{above, ascending, same}
 use Rattle.words.specs.declared.member.Member.{Member}
 use Rattle.words.specs.declared.rule.Rule.{Rule}
-use Rattle.words.specs.Books.{book_sound, has_word, word_of, words_in}
+use Rattle.words.specs.Books.{book_sound, has_word, word_of, words_before, words_in}
 use Rattle.words.specs.Keys.{member_key, rule_key, rule_less}
 use Rattle.words.specs.Laws.{Book}
-use Rattle.words.specs.Records.{is_member, is_rule, member_word, rule_word, valid_member, valid_rule}
+use Rattle.words.specs.Records.{is_member, is_rule, member_in, member_word, rule_in, rule_word, valid_member, valid_rule}
 use Rattle.words.specs.Words.{number_of, tail_of, word_octets, words_octets}
 use Rattle.words.proofs.Books.{member_no_rule}
 use Rattle.words.proofs.Sound.{rule_no_member, sound_is_book}
 use Rattle.book.specs.Asked.{stands_so}
 use Rattle.book.specs.Laws.{In}
-use Rattle.book.specs.Octets.{book_octets, book_words, member_in, members_among, members_in, rule_in, rules_among, rules_in, words_before}
+use Rattle.book.specs.Octets.{book_octets, book_words, members_among, members_in, rules_among, rules_in}
 use Rattle.book.specs.Sound.{Sound, each, holds, other_port, owned, ports_apart}
 use Rattle.book.proofs.Carried.{carried-each, carried_in, carried_no, carried_none, carried_pairs, carried_yes, each_push, length-carried}
 use Rattle.book.proofs.Fields.{member_first, member_of_word, numbers_rise, rule_of_word, rules_rise}

@@ -1,11 +1,10 @@
 -- A member takes its seat, and the book stays a book. Assumes nothing.
-use Rattle.std.proofs.Common.{◌≡◌, ℕ, Bool, true, false, not, eqb, ltb, List, [], ◌∷◌, length, filter, sym, refl, ◌∙◌, ⊎_elim, arith}
+use Rattle.std.proofs.Common.{◌≡◌, ℕ, Bool, true, false, not, eqb, ltb, List, [], ◌∷◌, length, filter, Ok, Result, sym, refl, ◌∙◌, ⊎_elim, arith}
 use Rattle.std.proofs.lemmas.Bool.{cases_Bool, and_parts, and_from, or_cases, or_from, or_left, or_right, eqb-false, ne_eqb, not-true, not_from_false, lt-ltb}
 use Rattle.table.specs.Entries.{after, answer}
 use Rattle.table.specs.Ordered.{entered, same}
 use Rattle.table.proofs.Places.{ascending-entered, ascending_kept}
-use Rattle.table.specs.declared.entry.Entry.{Entry}
-use Rattle.table.specs.declared.entry.Entry.TheVariants.{New}
+use Rattle.table.specs.declared.insert_error.InsertError.{InsertError}
 use Rattle.words.specs.declared.member.Member.{Member}
 use Rattle.words.specs.declared.rule.Rule.{Rule}
 use Rattle.words.specs.Keys.{member_key, rule_key}
@@ -60,7 +59,7 @@ held_entered n m (y ∷ ms) h =
     (cases_Bool (ltb m.number y.number))
 
 -- there is room, and the number is free
-pub seat_new : (m : Member) (ms : List Member) (us : List Rule) → Sound ms us → valid_member m ≡ true → answer ltb member_key 15 m (stayers m ms) ≡ New
+pub seat_new : (m : Member) (ms : List Member) (us : List Rule) → Sound ms us → valid_member m ≡ true → answer ltb member_key 15 m (stayers m ms) ≡ Ok tt
 seat_new m ms us s v =
     let p = port_of m v in
     let l = room m.port (stayers m ms) p.0 p.1 (ports_kept (stays m) ms s.ports) (each_kept valid_member (stays m) ms s.members_valid) (port_free m ms) in
@@ -85,9 +84,9 @@ member_seated m ms us s v =
     }
 
 -- the members and rules then, by what the tables answered
-pub seat_done : (m : Member) (ms ks ns sl : List Member) (us vs : List Rule) (r : Entry) → Sound ms us → valid_member m ≡ true
-    → ks ≡ stayers m ms → sl ≡ ks → vs ≡ filter (owned sl) us → r ≡ answer ltb member_key 15 m ks → ns ≡ after r (entered ltb member_key m ks) ks
-    → (ns ≡ with_member m ms) × (vs ≡ rules_with m ms us)
-seat_done m ms ks ns sl us vs r s v e f g h i =
-    let q : r ≡ New = h ∙ rw e (seat_new m ms us s v) in
-    (i ∙ rw (q, e), g ∙ rw (f, e))
+pub seat_done : (m : Member) (ms ks ns : List Member) (us vs : List Rule) (r : Result (Unit {0}) InsertError) → Sound ms us → valid_member m ≡ true
+    → ks ≡ stayers m ms → vs ≡ filter (owned ks) us → r ≡ answer ltb member_key 15 m ks → ns ≡ after r (entered ltb member_key m ks) ks
+    → (ns ≡ with_member m ms) × (vs ≡ rules_with m ms us) × (r ≡ Ok tt)
+seat_done m ms ks ns us vs r s v e g h i =
+    let q : r ≡ Ok tt = h ∙ rw e (seat_new m ms us s v) in
+    (i ∙ rw (q, e), g ∙ rw e, q)

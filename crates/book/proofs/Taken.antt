@@ -1,12 +1,12 @@
 -- A change that is taken in leaves a book, and nothing is a book. Assumes nothing.
-use Rattle.std.proofs.Common.{◌≡◌, ℕ, ◌<◌, Bool, true, false, cond, not, ◌&&◌, ltb, List, [], length, refl, arith}
+use Rattle.std.proofs.Common.{◌≡◌, ℕ, ◌<◌, Bool, true, false, cond, not, ◌&&◌, ltb, List, [], length, Ok, Err, refl, arith}
 use Rattle.std.proofs.lemmas.Bool.{and_parts, ltb-true}
 use Rattle.table.specs.Ordered.{same, stands}
 use Rattle.words.specs.declared.member.Member.{Member}
 use Rattle.words.specs.declared.rule.Rule.{Rule}
 use Rattle.words.specs.Keys.{rule_key, rule_less}
 use Rattle.words.specs.Records.{valid_rule}
-use Rattle.book.specs.declared.addition.Addition.TheVariants.{New, Standing, Full, Refused}
+use Rattle.book.specs.declared.rule_refusal.RuleRefusal.TheVariants.{Invalid, Standing, Full}
 use Rattle.book.specs.declared.change.Change.{Change}
 use Rattle.book.specs.declared.change.Change.TheVariants.{Starting, Stopping, Enter, Withdraw}
 use Rattle.book.specs.Asked.{addition}
@@ -15,7 +15,7 @@ use Rattle.book.specs.Sound.{Sound, holds}
 use Rattle.book.proofs.Keeping.{member_gone, rule_entered, rules_gone}
 use Rattle.book.proofs.Seating.{member_seated}
 
-addition_new : (a b c : Bool) → is_new (cond a (cond b Standing (cond c New Full)) Refused) ≡ true → (a ≡ true) × (b ≡ false) × (c ≡ true)
+addition_new : (a b c : Bool) → is_new (cond a (cond b (Err Standing) (cond c (Ok tt) (Err Full))) (Err Invalid)) ≡ true → (a ≡ true) × (b ≡ false) × (c ≡ true)
 addition_new true false true e = (refl, refl, refl)
 addition_new true false false e = let z : ◌≡◌ {A = ℕ} 0 1 = cc in absurd (omega arith)
 addition_new true true c e = let z : ◌≡◌ {A = ℕ} 0 1 = cc in absurd (omega arith)

@@ -1,7 +1,9 @@
 -- The words of a book are a run that is sound, and carry that book. Assumes nothing.
-use Rattle.std.proofs.Common.{◌≡◌, ℕ, zero, suc, ◌+◌, ◌-◌, ◌*◌, ◌/◌, ◌%◌, ◌<◌, ◌≤◌, Bool, true, false, ltb, List, [], ◌∷◌, ◌++◌, map, length, get_or, sym, refl, ap, ◌∙◌, inl, inr, ⊎_elim, arith, length-append}
+use Rattle.std.proofs.Common.{◌≡◌, ℕ, zero, suc, ◌+◌, ◌-◌, ◌*◌, ◌<◌, ◌≤◌, Bool, true, false, ltb, List, [], ◌∷◌, ◌++◌, map, length, get_or, sym, refl, ap, ◌∙◌, inl, inr, ⊎_elim, arith, length-append}
 use lib.ListN.{length-map}
 use Rattle.std.proofs.lemmas.List.{append-nil, ext_get_or, get_or_append_left, get_or-append_right, get_or-map}
+use Rattle.std.proofs.lemmas.List.Folds.{list_all-append}
+use Rattle.std.proofs.lemmas.Nat.{from_be_bytes-to_be_bytes_4}
 use Rattle.std.proofs.lemmas.Bool.{and_from, and_parts, both_ways, cases_lt, eqb-false, lt-ltb, ltb-true, not-true, or_cases}
 use Rattle.table.specs.Ordered.{above, ascending, same}
 use Rattle.table.proofs.Places.{distinct, rises}
@@ -9,19 +11,20 @@ use Rattle.words.specs.declared.member.Member.{Member}
 use Rattle.words.specs.declared.rule.Rule.{Rule}
 use Rattle.words.specs.declared.rule_kind.RuleKind.{RuleKind}
 use Rattle.words.specs.declared.rule_kind.RuleKind.TheVariants.{Subscription, Invitation}
-use Rattle.words.specs.Books.{book_sound, has_word, word_of, words_in}
+use Rattle.words.specs.Books.{book_sound, has_word, word_of, words_in, words_of}
+use Rattle.words.proofs.Listed.{length-words_before, word_listed}
 use Rattle.words.specs.Keys.{member_key, rule_key, rule_less}
 use Rattle.words.specs.Laws.{Book}
-use Rattle.words.specs.Records.{is_member, is_rule, member_of, member_word, rule_kind_number, rule_of, rule_word, valid_member, valid_rule}
+use Rattle.words.specs.Records.{is_member, is_rule, member_in, member_of, member_word, rule_in, rule_kind_number, rule_of, rule_word, valid_member, valid_rule}
 use Rattle.words.specs.Words.{number_of, tail_of, words_octets}
 use Rattle.words.proofs.Books.{member_no_rule}
 use Rattle.words.proofs.Sound.{rule_no_member}
 use Rattle.words.proofs.Whole.{book_is_sound}
 use Rattle.book.specs.Asked.{same_member, stands_so}
 use Rattle.book.specs.Matching.{some}
-use Rattle.book.specs.Octets.{book_octets, book_words, carried, member_in, members_among, members_in, rule_in, rules_among, rules_in, words_of}
+use Rattle.book.specs.Octets.{book_octets, book_words, carried, members_among, members_in, rules_among, rules_in}
 use Rattle.book.specs.Sound.{Sound, each, holds, other_port, owned, ports_apart}
-use Rattle.book.proofs.Carried.{carried-append, length_before, length-carried, word_before}
+use Rattle.book.proofs.Carried.{carried-append, length-carried}
 use Rattle.book.proofs.Fields.{member_first, word_of_member, word_of_rule}
 use Rattle.book.proofs.Keeping.{same_is}
 use Rattle.book.proofs.Membership.{has_some, stands_some}
@@ -44,18 +47,9 @@ octet_small (w ∷ ws) (suc (suc zero)) = omega arith
 octet_small (w ∷ ws) (suc (suc (suc zero))) = omega arith
 octet_small (w ∷ ws) (suc (suc (suc (suc i)))) = octet_small ws i
 
-four_joined : (w p q r a b c d : ℕ) → w ≡ p * 256 + d → p ≡ q * 256 + c → q ≡ r * 256 + b → r ≡ a → a * 16777216 + b * 65536 + c * 256 + d ≡ w
-four_joined w p q r a b c d e f g h = omega arith
-
-four_back : (w : ℕ) → w < 4294967296 → w / 16777216 % 256 * 16777216 + w / 65536 % 256 * 65536 + w / 256 % 256 * 256 + w % 256 ≡ w
-four_back w l =
-    let a : w / 65536 ≡ w / 256 / 256 = omega arith in
-    let b : w / 16777216 ≡ w / 65536 / 256 = omega arith in
-    four_joined w (w / 256) (w / 65536) (w / 16777216) _ _ _ _ (omega arith) (omega arith) (omega arith) (omega arith)
-
 pub word_written : (ws : List ℕ) (k : ℕ) → each short ws ≡ true → k < length ws → word_of (words_octets ws) k ≡ get_or ws k 0
 word_written [] k s l = absurd (omega arith)
-word_written (w ∷ ws) zero s l = four_back w (ltb-true w 4294967296 (and_parts (short w) (each short ws) s).0)
+word_written (w ∷ ws) zero s l = from_be_bytes-to_be_bytes_4 w (ltb-true w 4294967296 (and_parts (short w) (each short ws) s).0)
 word_written (w ∷ ws) (suc k) s l =
     let e : 4 * suc k ≡ suc (suc (suc (suc (4 * k)))) = omega arith in
     let e1 : suc (suc (suc (suc (4 * k)))) + 1 ≡ suc (suc (suc (suc (4 * k + 1)))) = omega arith in
@@ -67,12 +61,8 @@ pub words_written : (ws : List ℕ) → each short ws ≡ true → words_of (wor
 words_written ws s =
     let xs = words_octets ws in
     let n : words_in xs ≡ length ws = omega (arith, length_octets ws) in
-    let l = length_before xs (words_in xs) in
-    ext_get_or 0 (words_of xs) ws (omega arith) (λ i h. word_before xs (words_in xs) i (omega arith) ∙ word_written ws i s (omega arith))
-
-each_append : {A : Type 0} (q : A → Bool) (xs ys : List A) → each q xs ≡ true → each q ys ≡ true → each q (xs ++ ys) ≡ true
-each_append q [] ys a b = b
-each_append q (x ∷ xs) ys a b = let p = and_parts (q x) (each q xs) a in and_from _ _ p.0 (each_append q xs ys p.1 b)
+    let l = length-words_before xs (words_in xs) in
+    ext_get_or 0 (words_of xs) ws (omega arith) (λ i h. word_listed xs (words_in xs) i (omega arith) ∙ word_written ws i s (omega arith))
 
 -- what holds of the word of each that is valid holds of each word
 each_word : {A : Type 0} (valid : A → Bool) (f : A → ℕ) (q : ℕ → Bool) (xs : List A) → ((x : A) → valid x ≡ true → q (f x) ≡ true) → each valid xs ≡ true → each q (map f xs) ≡ true
@@ -85,8 +75,8 @@ kind_small Invitation = omega arith
 
 pub words_short : (ms : List Member) (us : List Rule) → Sound ms us → each short (book_words ms us) ≡ true
 words_short ms us s =
-    each_append short (map member_word ms) (map rule_word us)
-    (each_word valid_member member_word short ms (λ m v. let r = member_ranges m v in lt-ltb (member_word m) 4294967296 (omega arith)) s.members_valid)
+    list_all-append short (map member_word ms) (map rule_word us)
+    ∙ and_from _ _ (each_word valid_member member_word short ms (λ m v. let r = member_ranges m v in lt-ltb (member_word m) 4294967296 (omega arith)) s.members_valid)
     (each_word valid_rule rule_word short us (λ u v. let r = rule_ranges u v in let k = kind_small u.kind in lt-ltb (rule_word u) 4294967296 (omega arith)) s.rules_valid)
 
 -- what words of valid things carry, read by p and f, is those things

@@ -3,14 +3,13 @@
 --     taken ms us c          whether the change c is taken in
 --     members_after ms c     the members then, where it is
 --     rules_after ms us c    the rules then, where it is
-use Rattle.std.specs.Prelude.{Bool, true, false, ◌&&◌, List, filter, ◌==◌, nat_lt}
+use Rattle.std.specs.Prelude.{Bool, ◌&&◌, List, filter, Result, is_ok, ◌==◌, nat_lt}
 use Rattle.table.specs.Ordered.{entered, stands, without}
 use Rattle.words.specs.declared.member.Member.{Member}
 use Rattle.words.specs.declared.rule.Rule.{Rule}
 use Rattle.words.specs.Keys.{member_key, rule_key, rule_less}
 use Rattle.words.specs.Records.{valid_member}
-use Rattle.book.specs.declared.addition.Addition.{Addition}
-use Rattle.book.specs.declared.addition.Addition.TheVariants.{New, Standing, Full, Refused}
+use Rattle.book.specs.declared.rule_refusal.RuleRefusal.{RuleRefusal}
 use Rattle.book.specs.declared.change.Change.{Change}
 use Rattle.book.specs.declared.change.Change.TheVariants.{Starting, Stopping, Enter, Withdraw}
 use Rattle.book.specs.Asked.{addition, stands_so}
@@ -20,11 +19,8 @@ use Rattle.book.specs.Sound.{not_of}
 abbrev pub own : Member → List Member → Rule → Bool
 own m ms u = stands_so m ms && u.number == m.number
 
-abbrev pub is_new : Addition → Bool
-is_new New = true
-is_new Standing = false
-is_new Full = false
-is_new Refused = false
+abbrev pub is_new : Result (Unit {0}) RuleRefusal → Bool
+is_new r = is_ok r
 
 abbrev pub taken : List Member → List Rule → Change → Bool
 taken ms us (Starting m) = valid_member m

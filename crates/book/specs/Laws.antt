@@ -21,7 +21,7 @@ use Rattle.words.specs.Keys.{member_key, rule_key, rule_less}
 use Rattle.words.specs.Records.{member_of, member_word, rule_of, rule_word, valid_member, valid_rule}
 use Rattle.book.specs.declared.audience.Audience.{Audience}
 use Rattle.book.specs.declared.audience.Audience.TheVariants.{Published}
-use Rattle.book.specs.declared.audience.Sender.{Sender}
+use Rattle.words.specs.declared.module_id.ModuleId.{ModuleId}
 use Rattle.book.specs.declared.change.Change.{Change}
 use Rattle.book.specs.Asked.{same_member, stands_so}
 use Rattle.book.specs.Changes.{members_after, rules_after, taken}
@@ -34,13 +34,13 @@ abbrev pub In : {A : Type 0} → A → List A → Type 0
 In x [] = ⊥
 In x (y ∷ ys) = (x ≡ y) ⊎ In x ys
 
-pub record Recipients (ms : List Member) (us : List Rule) (a : Audience) (f : Sender) (s : ℕ) : Type 0 where
+pub record Recipients (ms : List Member) (us : List Rule) (a : Audience) (f : ModuleId) (s : ℕ) : Type 0 where
   pub asked : (m : Member) → In m (recipients ms us a f s) → In m ms × (in_audience a m ≡ true) × ((u : Rule) × In u us × (asks a f s m u ≡ true))
   pub served : (m : Member) (u : Rule) → In m ms → in_audience a m ≡ true → In u us → asks a f s m u ≡ true → In m (recipients ms us a f s)
   pub once : ascending nat_lt member_key ms ≡ true → ascending nat_lt member_key (recipients ms us a f s) ≡ true
 
 abbrev pub RecipientsLaw : Type 0
-RecipientsLaw = (ms : List Member) (us : List Rule) (a : Audience) (f : Sender) (s : ℕ) → Recipients ms us a f s
+RecipientsLaw = (ms : List Member) (us : List Rule) (a : Audience) (f : ModuleId) (s : ℕ) → Recipients ms us a f s
 
 pub record Written (ms : List Member) (us : List Rule) : Type 0 where
   pub sound : book_sound (book_octets ms us) ≡ true
@@ -81,7 +81,7 @@ pub record OrderLaw : Type 0 where
   pub rules : (u v : Rule) → valid_rule u ≡ true → valid_rule v ≡ true → rule_less (rule_key u) (rule_key v) ≡ nat_lt (rule_word u) (rule_word v)
 
 -- number 2 of role 9 sends
-abbrev pub sender : Sender
+abbrev pub sender : ModuleId
 sender = record { number = 2; role = 9 }
 
 abbrev pub listener : Member

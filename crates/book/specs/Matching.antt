@@ -5,14 +5,15 @@
 --     asks a f s m u          the rule u of the member m asks for the message
 --     receives us a f s m     the member m receives it: one of its rules asks for it
 --     recipients ms us a f s  those of ms that do, in their order, each once
-use Rattle.std.specs.Prelude.{ℕ, Bool, true, false, ◌&&◌, ◌||◌, List, [], ◌∷◌, filter, ◌==◌}
+use Rattle.std.specs.Prelude.{ℕ, Bool, true, false, ◌&&◌, ◌||◌, List, filter, ◌==◌}
+use Rattle.std.specs.List.{list_any}
 use Rattle.words.specs.declared.member.Member.{Member}
 use Rattle.words.specs.declared.rule.Rule.{Rule}
 use Rattle.words.specs.declared.rule_kind.RuleKind.{RuleKind}
 use Rattle.words.specs.declared.rule_kind.RuleKind.TheVariants.{Subscription, Invitation}
 use Rattle.book.specs.declared.audience.Audience.{Audience}
 use Rattle.book.specs.declared.audience.Audience.TheVariants.{Published, Announced, Private}
-use Rattle.book.specs.declared.audience.Sender.{Sender}
+use Rattle.words.specs.declared.module_id.ModuleId.{ModuleId}
 
 -- subject 0 is every subject, domain role 0 every role
 abbrev pub matches : Rule → ℕ → ℕ → Bool
@@ -32,15 +33,14 @@ in_audience Published m = true
 in_audience (Announced d) m = d == 0 || m.role == d
 in_audience (Private n) m = m.number == n
 
-abbrev pub asks : Audience → Sender → ℕ → Member → Rule → Bool
+abbrev pub asks : Audience → ModuleId → ℕ → Member → Rule → Bool
 asks a f s m u = u.number == m.number && (wants u.kind a && matches u s f.role)
 
 abbrev pub some : {A : Type 0} → (A → Bool) → List A → Bool
-some p [] = false
-some p (x ∷ xs) = p x || some p xs
+some p xs = list_any p xs
 
-abbrev pub receives : List Rule → Audience → Sender → ℕ → Member → Bool
+abbrev pub receives : List Rule → Audience → ModuleId → ℕ → Member → Bool
 receives us a f s m = in_audience a m && some (asks a f s m) us
 
-abbrev pub recipients : List Member → List Rule → Audience → Sender → ℕ → List Member
+abbrev pub recipients : List Member → List Rule → Audience → ModuleId → ℕ → List Member
 recipients ms us a f s = filter (receives us a f s) ms

@@ -1,8 +1,4 @@
 -- A book as the words that it is written in, and back. Assumes nothing.
---     words_before xs k      the first k words of the run of octets xs
---     words_of xs            all its whole words
---     member_in w            the member that the word w carries
---     rule_in w              the rule that it carries
 --     carried p f ws         what f reads of those of the words ws that pass p, in their order
 --     put_behind n b x xs    xs, and x behind it where b holds and they are fewer than n
 --     members_among ws       the members that the words ws carry, in their order
@@ -11,26 +7,12 @@
 --     rules_in xs            the rules in it
 --     book_words ms us       the words of the members, then of the rules
 --     book_octets ms us      their octets
-use Rattle.std.specs.Prelude.{ℕ, zero, suc, Bool, cond, ◌&&◌, List, [], ◌∷◌, ◌++◌, map, length, filter, ◌==◌, nat_lt}
+use Rattle.std.specs.Prelude.{ℕ, Bool, cond, ◌&&◌, List, [], ◌∷◌, ◌++◌, map, length, filter, nat_lt}
 use Rattle.words.specs.declared.member.Member.{Member}
 use Rattle.words.specs.declared.rule.Rule.{Rule}
-use Rattle.words.specs.declared.rule_kind.RuleKind.TheVariants.{Subscription, Invitation}
-use Rattle.words.specs.Books.{word_of, words_in}
-use Rattle.words.specs.Records.{is_member, is_rule, member_of, member_word, rule_of, rule_word}
-use Rattle.words.specs.Words.{kind_of, number_of, role_of, tail_of, words_octets}
-
-abbrev pub words_before : List ℕ → ℕ → List ℕ
-words_before xs zero = []
-words_before xs (suc k) = words_before xs k ++ (word_of xs k ∷ [])
-
-abbrev pub words_of : List ℕ → List ℕ
-words_of xs = words_before xs (words_in xs)
-
-abbrev pub member_in : ℕ → Member
-member_in w = member_of (number_of w) (role_of w) (tail_of w)
-
-abbrev pub rule_in : ℕ → Rule
-rule_in w = rule_of (cond (kind_of w == 2) Subscription Invitation) (number_of w) (role_of w) (tail_of w)
+use Rattle.words.specs.Books.{words_of}
+use Rattle.words.specs.Records.{is_member, is_rule, member_in, member_word, rule_in, rule_word}
+use Rattle.words.specs.Words.{words_octets}
 
 abbrev pub carried : {A : Type 0} → (ℕ → Bool) → (ℕ → A) → List ℕ → List A
 carried p f ws = map f (filter p ws)

@@ -5,6 +5,7 @@
 --     not_of n u         the rule u is of another number than n
 --     Sound ms us        the members ms and the rules us are a book
 use Rattle.std.specs.Prelude.{◌≡◌, ℕ, ◌≤◌, Bool, true, not, ◌&&◌, List, [], ◌∷◌, length, ◌==◌, nat_lt}
+use Rattle.std.specs.List.{list_all}
 use Rattle.table.specs.Ordered.{ascending, stands}
 use Rattle.words.specs.declared.member.Member.{Member}
 use Rattle.words.specs.declared.rule.Rule.{Rule}
@@ -12,8 +13,7 @@ use Rattle.words.specs.Keys.{member_key, rule_key, rule_less}
 use Rattle.words.specs.Records.{valid_member, valid_rule}
 
 abbrev pub each : {A : Type 0} → (A → Bool) → List A → Bool
-each f [] = true
-each f (x ∷ xs) = f x && each f xs
+each f xs = list_all f xs
 
 abbrev pub other_port : ℕ → Member → Bool
 other_port p m = not (m.port == p)

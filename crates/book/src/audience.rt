@@ -1,13 +1,7 @@
-// Whom a message is for.
+// Whom a message is for, who sends it, and what it is on.
+use words::ModuleId;
 
-// Who sends a message.
-#[derive(Clone, Copy)]
-pub struct Sender {
-    pub number: u8,
-    pub role: u8,
-}
-
-#[derive(Clone, Copy)]
+#[derive(Clone, Copy, PartialEq, Eq, Debug)]
 pub enum Audience {
     // Every member that subscribes.
     Published,
@@ -15,4 +9,12 @@ pub enum Audience {
     Announced { domain: u8 },
     // The member with this number, if it invites.
     Private { number: u8 },
+}
+
+// All of a message that says who receives it.
+#[derive(Clone, Copy, PartialEq, Eq, Debug)]
+pub struct Envelope {
+    pub audience: Audience,
+    pub sender: ModuleId,
+    pub subject: u16,
 }

@@ -1,13 +1,11 @@
-// The book: at most 15 members and 200 rules.
-ghost use Rattle.std.specs.Prelude.{◌≡◌, true, nat_lt};
+// The book of members and rules.
+ghost use Rattle.std.specs.Prelude.{◌≡◌, true};
 ghost use Rattle.book.specs.Sound.{each, owned, ports_apart};
 ghost use Rattle.table.specs.Items.{items};
-ghost use Rattle.table.specs.Ordered.{ascending};
-ghost use Rattle.words.specs.Keys.{member_key, rule_key, rule_less};
 ghost use Rattle.words.specs.Records.{valid_member, valid_rule};
 
 use table::Table;
-use words::{Member, Rule};
+use words::{MOST_MEMBERS, MOST_RULES, Member, Rule};
 
 mod apply;
 mod edits;
@@ -19,10 +17,8 @@ mod reads;
 // each rule's number is a member's.
 #[derive(Drop)]
 pub struct Book {
-    pub(crate) members: Table<Member, 15>,
-    pub(crate) rules: Table<Rule, 200>,
-    ghost numbers: { ascending nat_lt member_key (items members) ≡ true },
-    ghost rising: { ascending rule_less rule_key (items rules) ≡ true },
+    pub(crate) members: Table<Member, MOST_MEMBERS>,
+    pub(crate) rules: Table<Rule, MOST_RULES>,
     ghost members_valid: { each valid_member (items members) ≡ true },
     ghost rules_valid: { each valid_rule (items rules) ≡ true },
     ghost ports: { ports_apart (items members) ≡ true },

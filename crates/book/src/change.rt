@@ -1,7 +1,7 @@
 // What a frame of the registrar tells of a change.
 use words::{Member, Rule};
 
-#[derive(Clone, Copy)]
+#[derive(Clone, Copy, PartialEq, Eq, Debug)]
 pub enum Change {
     // A member takes its seat.
     Starting(Member),

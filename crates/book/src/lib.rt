@@ -1,19 +1,13 @@
 // The book of members and rules.
 #![tactic(auto)]
 
-// The rules of all members but one.
-mod others;
-
-// Who stays when a member takes its seat.
-mod stayers;
-
 // Tables are filled with what the words of a run carry.
 mod filling;
 
-// What became of a rule that was to be added.
-mod addition;
+// Why a rule did not enter.
+mod rule_refusal;
 
-pub use addition::Addition;
+pub use rule_refusal::RuleRefusal;
 
 // What a frame of the registrar tells of a change.
 mod change;
@@ -23,7 +17,7 @@ pub use change::Change;
 // Whom a message is for, and who receives it.
 mod audience;
 
-pub use audience::{Audience, Sender};
+pub use audience::{Audience, Envelope};
 
 mod matching;
 

@@ -1,8 +1,8 @@
 // Who receives a message.
 ghost use Rattle.std.specs.Prelude.{◌≡◌};
-ghost use Rattle.book.specs.Matching.{asks, in_audience, matches, receives, some, wants};
+ghost use Rattle.book.specs.Matching.{asks, in_audience, matches, receives, wants};
 
-use crate::audience::{Audience, Sender};
+use crate::audience::{Audience, Envelope};
 use words::{Member, Rule, RuleKind};
 
 // Whether the rule is for this subject from senders of this role.
@@ -12,64 +12,42 @@ pub fn matches(rule: &Rule, subject: u16, role: u8) -> bool
     (rule.subject == 0 || rule.subject == subject) && (rule.role == 0 || rule.role == role)
 }
 
-// Whether rules of this kind are for such messages.
-fn wants(kind: RuleKind, audience: Audience) -> bool
-    ensures { result ≡ wants kind audience }
-{
-    match (kind, audience) {
-        (RuleKind::Subscription, Audience::Published) => true,
-        (RuleKind::Subscription, Audience::Announced { .. }) => false,
-        (RuleKind::Subscription, Audience::Private { .. }) => false,
-        (RuleKind::Invitation, Audience::Published) => false,
-        (RuleKind::Invitation, Audience::Announced { .. }) => true,
-        (RuleKind::Invitation, Audience::Private { .. }) => true,
-    }
-}
-
-fn in_audience(audience: Audience, member: &Member) -> bool
-    ensures { result ≡ in_audience audience member.now }
-{
-    match audience {
-        Audience::Published => true,
-        Audience::Announced { domain } => domain == 0 || member.role == domain,
-        Audience::Private { number } => member.number == number,
-    }
-}
-
-fn asks(audience: Audience, sender: Sender, subject: u16, member: &Member, rule: &Rule) -> bool
-    ensures { result ≡ asks audience sender subject member.now rule.now }
-{
-    rule.number == member.number
-        && wants(rule.kind, audience)
-        && matches(rule, subject, sender.role)
-}
-
-fn some_asks(
-    rules: &[Rule],
-    audience: Audience,
-    sender: Sender,
-    subject: u16,
-    member: &Member,
-) -> bool
-    ensures { result ≡ some (asks audience sender subject member.now) rules.now }
-{
-    for rule in rules {
-        if asks(audience, sender, subject, member, rule) {
-            return true;
+impl Audience {
+    // Whether rules of this kind are for such messages.
+    fn is_wanted_by(self, kind: RuleKind) -> bool
+        ensures { result ≡ wants kind self }
+    {
+        match self {
+            Audience::Published => kind == RuleKind::Subscription,
+            Audience::Announced { .. } | Audience::Private { .. } => kind == RuleKind::Invitation,
         }
     }
-    false
+
+    fn includes(self, member: &Member) -> bool
+        ensures { result ≡ in_audience self member.now }
+    {
+        match self {
+            Audience::Published => true,
+            Audience::Announced { domain } => domain == 0 || member.role == domain,
+            Audience::Private { number } => member.number == number,
+        }
+    }
 }
 
-// Whether the member receives the message, by these rules.
-pub(crate) fn receives(
-    rules: &[Rule],
-    audience: Audience,
-    sender: Sender,
-    subject: u16,
-    member: &Member,
-) -> bool
-    ensures { result ≡ receives rules.now audience sender subject member.now }
-{
-    in_audience(audience, member) && some_asks(rules, audience, sender, subject, member)
+impl Envelope {
+    // Whether the rule is the member's and asks for the message.
+    fn is_asked_for(self, member: &Member, rule: &Rule) -> bool
+        ensures { result ≡ asks self.audience self.sender self.subject member.now rule.now }
+    {
+        rule.number == member.number
+            && self.audience.is_wanted_by(rule.kind)
+            && matches(rule, self.subject, self.sender.role)
+    }
+
+    // Whether the member receives the message, by these rules.
+    pub(crate) fn reaches(self, member: &Member, rules: &[Rule]) -> bool
+        ensures { result ≡ receives rules.now self.audience self.sender self.subject member.now }
+    {
+        self.audience.includes(member) && rules.iter().any(|rule| self.is_asked_for(member, rule))
+    }
 }

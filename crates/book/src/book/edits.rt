@@ -8,11 +8,8 @@ ghost use Rattle.book.specs.Sound.{holds, not_of};
 ghost use Rattle.table.specs.Ordered.{entered, stands, without};
 ghost use Rattle.words.specs.Keys.{member_key, rule_key, rule_less};
 
-use crate::addition::Addition;
 use crate::book::Book;
-use crate::others::Others;
-use crate::stayers::{OfMembers, Stayers};
-use table::{Entry, Record};
+use crate::rule_refusal::RuleRefusal;
 use words::{Member, Rule};
 
 impl Book {
@@ -23,7 +20,7 @@ impl Book {
         ensures rules { rules_of self.new ≡ filter (not_of number) (rules_of self.old) }
     {
         let was = self.members.remove(&number);
-        self.rules.retain(&Others { number });
+        self.rules.retain(|rule| rule.number != number);
         was
     }
 
@@ -33,27 +30,24 @@ impl Book {
         ensures members { members_of self.new ≡ members_of self.old }
         ensures rules { rules_of self.new ≡ without rule_less rule_key (rule_key rule.now) (rules_of self.old) }
     {
-        self.rules.remove(&rule.key())
+        self.rules.remove(rule)
     }
 
     // The rule enters in its place, unless it may not, stands already, or finds no room.
-    pub fn add_rule(&mut self, rule: Rule) -> Addition
+    pub fn add_rule(&mut self, rule: Rule) -> Result<(), RuleRefusal>
         ensures answer { result ≡ addition (members_of self.old) (rules_of self.old) rule }
         ensures members { members_of self.new ≡ members_of self.old }
         ensures rules { rules_of self.new ≡ added result (entered rule_less rule_key rule (rules_of self.old)) (rules_of self.old) }
     {
         if !rule.is_valid() || !self.members.contains(&rule.number) {
-            return Addition::Refused;
+            return Err(RuleRefusal::Invalid);
         }
-        match self.rules.insert(rule) {
-            Entry::New => Addition::New,
-            Entry::Standing => Addition::Standing,
-            Entry::Full => Addition::Full,
-        }
+        self.rules.insert(rule)?;
+        Ok(())
     }
 
     // The member takes its seat: those with its number or at its port go first, with their rules. False where it may
-    // not stand.
+    // not stand, which is the only refusal.
     pub fn add_member(&mut self, member: Member) -> bool
         ensures answer { result ≡ valid_member member }
         ensures members { members_of self.new ≡ (if result then with_member member (members_of self.old) else members_of self.old) }
@@ -62,12 +56,10 @@ impl Book {
         if !member.is_valid() {
             return false;
         }
-        self.members.retain(&Stayers { comer: member });
-        self.rules.retain(&OfMembers {
-            members: self.members.as_slice(),
-        });
-        let _ = self.members.insert(member);
-        true
+        self.members.retain(|seated| seated.number != member.number && seated.port != member.port);
+        self.rules
+            .retain(|rule| self.members.contains(&rule.number));
+        self.members.insert(member).is_ok()
     }
 
     // The members and rules of another book take the place of its own.

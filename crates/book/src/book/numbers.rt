@@ -19,6 +19,8 @@ impl Book {
         ensures { First (members_of self.now) last result }
     {
         let mut number = next(last);
+        // A loop that breaks with the number: through an iterator it would answer an Option, though some number is always
+        // free.
         loop {
             if !self.members.contains(&number) {
                 break number;

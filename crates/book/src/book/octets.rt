@@ -7,10 +7,7 @@ ghost use Rattle.words.specs.Books.{book_sound};
 
 use crate::book::Book;
 use crate::filling::fill;
-use words::{BookRun, Member, Rule};
-
-// How many octets a word has.
-const WORD_LEN: usize = 4;
+use words::{BookRun, InWord, Member, Rule, WORD_LEN};
 
 impl Book {
     // Every member and every rule goes.
@@ -23,7 +20,7 @@ impl Book {
     }
 
     // The members and rules in the run take the place of its own. False, and the book is as it was, where the octets
-    // are not a book.
+    // are not a book; which word is wrong, `BookRun::read` tells.
     pub fn fill(&mut self, run: &BookRun<'_>) -> bool
         ensures answer { result ≡ book_sound run.now.octets.now }
         ensures members { members_of self.new ≡ (if result then members_in run.now.octets.now else members_of self.old) }
@@ -61,19 +58,7 @@ impl Book {
     }
 }
 
-// The word at an index of the book: of a member, or behind them of a rule.
-fn word_at(members: &[Member], rules: &[Rule], k: usize) -> u32
-    requires { k < length members.now + length rules.now }
-    ensures { result ≡ slice_index (book_words members.now rules.now) k }
-{
-    if k < members.len() {
-        members[k].to_word()
-    } else {
-        rules[k - members.len()].to_word()
-    }
-}
-
-// Writes a word to a place of the buffer.
+// Writes a word to a place of the buffer, by its index: of a chunk that is lent out no more is known than its length.
 fn put_word(buffer: &mut [u8], at: usize, w: u32)
     requires { at + 4 ≤ length buffer.old }
     ensures { buffer.new ≡ word_over buffer.old at w }
@@ -81,12 +66,15 @@ fn put_word(buffer: &mut [u8], at: usize, w: u32)
     buffer[at..at + WORD_LEN].copy_from_slice(&w.to_be_bytes());
 }
 
-// Writes the words to the buffer, one after the other.
+// Writes the words to the buffer, one after the other. One for this and for frames would be public in words, and have to
+// answer for a buffer that is too short.
 fn put_words(members: &[Member], rules: &[Rule], buffer: &mut [u8])
     requires { 4 * (length members.now + length rules.now) ≤ length buffer.old }
     ensures { buffer.new ≡ at_start (book_octets members.now rules.now) buffer.old }
 {
-    for k in 0..members.len() + rules.len() {
-        put_word(buffer, WORD_LEN * k, word_at(members, rules, k));
+    let of_members = members.iter().map(Member::to_word);
+    let of_rules = rules.iter().map(Rule::to_word);
+    for (k, w) in of_members.chain(of_rules).enumerate() {
+        put_word(buffer, WORD_LEN * k, w);
     }
 }

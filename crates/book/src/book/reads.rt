@@ -1,16 +1,15 @@
 // A book is made, and asked.
 ghost use Rattle.std.specs.Prelude.{◌≡◌, [], IfOk, nat_lt};
-ghost use Rattle.book.specs.Asked.{same_member, seated, stands_so};
+ghost use Rattle.book.specs.Asked.{seated, stands_so};
 ghost use Rattle.book.specs.Matching.{receives};
 ghost use Rattle.book.specs.Lists.{members_of, rules_of};
 ghost use Rattle.table.specs.Ordered.{looked_up, stands};
 ghost use Rattle.words.specs.Keys.{member_key, rule_key, rule_less};
 
-use crate::audience::{Audience, Sender};
+use crate::audience::Envelope;
 use crate::book::Book;
-use crate::matching::receives;
 use std::alloc::{AllocError, Global};
-use table::{Record, Table};
+use table::Table;
 use words::{Member, Rule};
 
 impl Book {
@@ -46,53 +45,27 @@ impl Book {
     pub fn has_rule(&self, rule: &Rule) -> bool
         ensures { result ≡ stands rule_less rule_key (rule_key rule.now) (rules_of self.now) }
     {
-        self.rules.contains(&rule.key())
+        self.rules.contains(rule)
     }
 
     // Who stands at this port.
     pub fn at_port(&self, port: u8) -> Option<Member>
         ensures { result ≡ seated port (members_of self.now) }
     {
-        seat(self.members.as_slice(), port)
+        self.members().iter().find(|m| m.port == port).copied()
     }
 
     // Whether this member stands exactly so.
     pub fn has_member(&self, member: &Member) -> bool
         ensures { result ≡ stands_so member.now (members_of self.now) }
     {
-        match self.members.get(&member.number) {
-            Some(found) => same_member(&found, member),
-            None => false,
-        }
+        self.holder(member.number) == Some(*member)
     }
 
-    // Whether the member receives such a message from this sender, by the rules of the book.
-    pub fn receives(
-        &self,
-        audience: Audience,
-        sender: Sender,
-        subject: u16,
-        member: &Member,
-    ) -> bool
-        ensures { result ≡ receives (rules_of self.now) audience sender subject member.now }
+    // Whether the member receives such a message, by the rules of the book.
+    pub fn receives(&self, envelope: Envelope, member: &Member) -> bool
+        ensures { result ≡ receives (rules_of self.now) envelope.audience envelope.sender envelope.subject member.now }
     {
-        receives(self.rules(), audience, sender, subject, member)
+        envelope.reaches(member, self.rules())
     }
-}
-
-fn same_member(m: &Member, n: &Member) -> bool
-    ensures { result ≡ same_member m.now n.now }
-{
-    m.number == n.number && m.role == n.role && m.port == n.port
-}
-
-fn seat(members: &[Member], port: u8) -> Option<Member>
-    ensures { result ≡ seated port members.now }
-{
-    for m in members {
-        if m.port == port {
-            return Some(*m);
-        }
-    }
-    None
 }

@@ -1,8 +1,9 @@
--- What the words before the turn's index carry stands.
-use Rattle.std.proofs.Common.{◌≡◌}
+-- What the words so far carry stands.
+use Rattle.std.proofs.Common.{◌≡◌, length}
 use Rattle.table.specs.Items.{items}
-use Rattle.book.specs.Octets.{carried, words_before}
+use Rattle.words.specs.Books.{words_before}
+use Rattle.book.specs.Octets.{carried}
 use Rattle.book.proofs.filling.fill.Given as goal
 
-abbrev pub invariant-loop-k : goal.invariant-loop-k
-invariant-loop-k g l = items l.table ≡ carried g.R.Worded.carries g.R.Worded.within (words_before l.run.octets.now l.k)
+abbrev pub invariant-loop-w : goal.invariant-loop-w
+invariant-loop-w g l = items l.table ≡ carried g.R.InWord.carries g.R.InWord.within (words_before l.run.octets.now (length l.yielded))

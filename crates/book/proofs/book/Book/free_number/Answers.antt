@@ -10,7 +10,7 @@ pub loop-number-init : goal.loop-number-init
 loop-number-init c =
     let b = c.args.self.now in
     let ms = members_of b in
-    let few : length ms ≤ 15 = omega (arith, b.members.few, b.members.records.ok.0) in
+    let few : length ms ≤ 15 = omega (arith, b.members.rows.few) in
     let e : place c.args.last c.next-number.result ≡ 0 = omega arith in
     let k : Kept ms c.args.last c.next-number.result 0 = (c.next-number.ensures, omega (arith, ahead-length c.args.last 0 ms), below_none _) in
     let P : ℕ → Type 0 = λ q. Kept ms c.args.last c.next-number.result q in
@@ -20,7 +20,7 @@ next_place : (c : goal.After-next-number-in-loop-number) → place c.args.last c
 next_place c = let b = c.loop-number.invariant.1 in omega arith
 
 held : (c : goal.After-next-number-in-loop-number) → holds c.loop-number.number (members_of c.args.self.now) ≡ true
-held c = sym (c.if-not-contains.ensures c.args.self.now.numbers)
+held c = sym c.if-not-contains.ensures
 
 falls : (c : goal.After-next-number-in-loop-number)
     → ahead c.args.last (place c.args.last c.loop-number.number + 1) (members_of c.args.self.now) < ahead c.args.last (place c.args.last c.loop-number.number) (members_of c.args.self.now)
