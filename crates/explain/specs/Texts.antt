@@ -4,45 +4,19 @@
 use Rattle.std.specs.Prelude.{ℕ, Bool, cond, ◌&&◌, ◌||◌, List, [], ◌++◌, length, Some, None, Ok, Err, codes, decimal, Option, Result, ◌==◌, slice_index}
 use Rattle.words.specs.declared.member.Member.{Member}
 use Rattle.words.specs.declared.rule.Rule.{Rule}
-use Rattle.words.specs.declared.rule_kind.RuleKind.{RuleKind}
-use Rattle.words.specs.declared.rule_kind.RuleKind.TheVariants.{Subscription, Invitation}
 use Rattle.words.specs.declared.head.MessageHead.{MessageHead}
-use Rattle.words.specs.declared.message_kind.MessageKind.{MessageKind}
-use Rattle.words.specs.declared.message_kind.MessageKind.TheVariants.{Published, Announced, Private}
+use Rattle.words.specs.Names.{message_name, rule_name}
 use Rattle.words.specs.Records.{rejected_type, cause_number}
 use Rattle.words.specs.Books.{members_before, rules_before, words_in}
 use Rattle.wire.specs.declared.header.Header.{Header}
 use Rattle.wire.specs.declared.frame.RuleChange.{RuleChange}
 use Rattle.wire.specs.declared.fault.FrameFault.{FrameFault}
-use Rattle.wire.specs.declared.meta_type.MetaType.{MetaType}
-use Rattle.wire.specs.declared.meta_type.MetaType.TheVariants.{Rejection, YouAreDead, Invite, Disinvite, ModuleRegistration, YouAreIn, IAmStarting, Subscribe, Unsubscribe, IAmStopping, CellStatus}
 use Rattle.wire.specs.Faults.{fault_of, layer_number}
 use Rattle.wire.specs.Frames.{FrameV, rejection, you_are_dead, invite, disinvite, module_registration, you_are_in, i_am_starting, subscribe, unsubscribe, i_am_stopping, cell_status, message}
+use Rattle.wire.specs.Names.{type_name}
 use Rattle.wire.specs.Reads.{read}
 use Rattle.wire.specs.Writes.{header_of}
 use Rattle.explain.specs.Hex.{hexed, unhex}
-
-abbrev pub type_name : MetaType → List ℕ
-type_name Rejection = codes "rejection"
-type_name YouAreDead = codes "you_are_dead"
-type_name Invite = codes "invite"
-type_name Disinvite = codes "disinvite"
-type_name ModuleRegistration = codes "module_registration"
-type_name YouAreIn = codes "you_are_in"
-type_name IAmStarting = codes "I_am_starting"
-type_name Subscribe = codes "subscribe"
-type_name Unsubscribe = codes "unsubscribe"
-type_name IAmStopping = codes "I_am_stopping"
-type_name CellStatus = codes "cell_status"
-
-abbrev pub message_name : MessageKind → List ℕ
-message_name Published = codes "published"
-message_name Announced = codes "announced"
-message_name Private = codes "private"
-
-abbrev pub rule_name : RuleKind → List ℕ
-rule_name Subscription = codes "subscription"
-rule_name Invitation = codes "invitation"
 
 abbrev pub header_text : Header → List ℕ
 header_text h =

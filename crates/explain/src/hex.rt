@@ -1,28 +1,27 @@
 // Octets as hexadecimal text.
-ghost use Rattle.std.specs.Prelude.{◌≡◌, ◌<◌, ◌++◌, IfSome, IfOk, if◌then◌else◌, Some, vec_items, string_bytes, OnOk};
+ghost use Rattle.std.specs.Prelude.{◌≡◌, ◌<◌, [], IfSome, IfOk, if◌then◌else◌, Some, None, vec_items, string_bytes};
 ghost use Rattle.std.specs.Option.{option_map};
-ghost use Rattle.explain.specs.Hex.{blank, broken, digit, digit_of, hexed, octet_hex, scanned, step, unhex};
+ghost use Rattle.explain.specs.Hex.{Scan, broken, finish, hexed, scanned, step, unhex};
 
 use std::alloc::{AllocError, Global};
+use std::fmt;
+use std::marker::Model;
 
-fn digit(d: u8) -> char
-    requires { d < 16 }
-    ensures value { result ≡ digit d }
-    ensures ascii { result < 128 }
-{
-    if d < 10 {
-        (b'0' + d) as char
-    } else {
-        (b'A' - 10 + d) as char
+// Octets, printed as two upper-case digits each.
+#[derive(Clone, Copy)]
+pub(crate) struct InHex<'a>(pub(crate) &'a [u8]);
+
+impl fmt::Display for InHex<'_> {
+    ghost output = { λ p. Some (hexed p.0.now) };
+
+    fn fmt<W: fmt::Write>(&self, f: &mut fmt::Formatter<W>) -> fmt::Result {
+        for octet in self.0 {
+            // Two digits suffice.
+            prove!(*octet <= 255);
+            write!(f, "{octet:02X}")?;
+        }
+        Ok(())
     }
-}
-
-fn push_octet(text: &mut String, octet: u8) -> Result<(), AllocError>
-    ensures { OnOk result (string_bytes text.new ≡ string_bytes text.old ++ octet_hex octet) }
-{
-    text.push(digit(octet / 16))?;
-    text.push(digit(octet % 16))?;
-    Ok(())
 }
 
 // Two upper-case digits for each octet.
@@ -30,49 +29,55 @@ pub fn to_hex(heap: Global, octets: &[u8]) -> Result<String, AllocError>
     ensures text { IfOk result (λ s. string_bytes s ≡ hexed octets.now) }
     ensures back { IfOk result (λ s. unhex (string_bytes s) ≡ Some octets.now) }
 {
-    let mut text = String::new(heap);
-    for octet in octets {
-        push_octet(&mut text, *octet)?;
-    }
-    Ok(text)
+    format!(in heap; "{}", InHex(octets))
 }
 
-fn digit_of(c: u8) -> Option<u8>
-    ensures value { result ≡ digit_of c }
-    ensures small { IfSome result (λ d. d < 16) }
-{
-    match c {
-        b'0'..=b'9' => Some(c - b'0'),
-        b'A'..=b'F' => Some(c - b'A' + 10),
-        b'a'..=b'f' => Some(c - b'a' + 10),
-        _ => None,
-    }
+// The octets so far, and the first digit of one that is begun.
+#[derive(Drop)]
+struct Scanner {
+    octets: Vec<u8>,
+    high: Option<u32>,
 }
 
-fn blank(c: u8) -> bool
-    ensures { result ≡ blank c }
-{
-    c == b' ' || c == b'\t' || c == b'\r'
+impl Model for Scanner {
+    ghost Value = { Scan };
+
+    ghost view = { λ s. scanned s.octets.items s.high };
+
+    ghost invariant = { λ s. IfSome s.high (λ h. h < 16) };
 }
 
-// One character more; false where the line is no hex. `high` is the first digit of an octet that is begun.
-fn take_char(octets: &mut Vec<u8>, high: &mut Option<u8>, c: u8) -> Result<bool, AllocError>
-    requires { IfSome high.old (λ h. h < 16) }
-    ensures scan { IfOk result (λ b. (if b then scanned octets.new.items high.new else broken) ≡ step (scanned octets.old.items high.old) c) }
-    ensures small { IfSome high.new (λ h. h < 16) }
-{
-    match (digit_of(c), *high) {
-        (Some(d), None) => {
-            *high = Some(d);
-            Ok(true)
+impl Scanner {
+    fn new(heap: Global) -> Scanner
+        ensures { result ≡ scanned [] None }
+    {
+        Scanner {
+            octets: Vec::new(heap),
+            high: None,
         }
-        (Some(d), Some(h)) => {
-            octets.push(h * 16 + d)?;
-            *high = None;
-            Ok(true)
+    }
+
+    // One character more; false where the line is no hex. An error enum for this and for no memory would be taken apart
+    // again by its one caller.
+    fn take(&mut self, c: u8) -> Result<bool, AllocError>
+        ensures { IfOk result (λ b. (if b then self.new else broken) ≡ step self.old c) }
+    {
+        match (char::from(c).to_digit(16), self.high.take()) {
+            (Some(digit), None) => self.high = Some(digit),
+            (Some(digit), Some(high)) => self.octets.push((high * 16 + digit) as u8)?,
+            (None, high) => return Ok(high.is_none() && matches!(c, b' ' | b'\t' | b'\r')),
         }
-        (None, None) => Ok(blank(c)),
-        (None, Some(_)) => Ok(false),
+        Ok(true)
+    }
+
+    // The octets; none within an octet.
+    fn finish(self) -> Option<Vec<u8>>
+        ensures { option_map vec_items result ≡ finish self }
+    {
+        match self.high {
+            Some(_) => None,
+            None => Some(self.octets),
+        }
     }
 }
 
@@ -80,17 +85,11 @@ fn take_char(octets: &mut Vec<u8>, high: &mut Option<u8>, c: u8) -> Result<bool,
 pub fn from_hex(heap: Global, line: &[u8]) -> Result<Option<Vec<u8>>, AllocError>
     ensures { IfOk result (λ o. option_map vec_items o ≡ unhex line.now) }
 {
-    let mut octets = Vec::new(heap);
-    let mut high = None;
+    let mut scanner = Scanner::new(heap);
     for c in line {
-        let fine = take_char(&mut octets, &mut high, *c)?;
-        if !fine {
+        if !scanner.take(*c)? {
             return Ok(None);
         }
     }
-    if high.is_none() {
-        Ok(Some(octets))
-    } else {
-        Ok(None)
-    }
+    Ok(scanner.finish())
 }

@@ -14,18 +14,13 @@ pub fn line_end(dump: &[u8]) -> usize
     ensures before { (k : ℕ) → k < result → slice_index dump.now k ≢ 10 }
     ensures ends { result < length dump.now → slice_index dump.now result ≡ 10 }
 {
-    for (k, c) in dump.iter().enumerate() {
-        if *c == b'\n' {
-            return k;
-        }
-    }
-    dump.len()
+    dump.iter().position(|c| *c == b'\n').unwrap_or(dump.len())
 }
 
 fn passed_over(line: &[u8]) -> bool
     ensures { result ≡ passed_over line.now }
 {
-    line.len() == 0 || line[0] == b'#' || line.len() == 1 && line[0] == b'\r'
+    matches!(line, [] | [b'#', ..] | [b'\r'])
 }
 
 fn spell(heap: Global, line: &[u8]) -> Result<String, AllocError>

@@ -1,204 +1,178 @@
 // What is said of a frame or of a fault.
-ghost use Rattle.std.specs.Prelude.{◌≡◌, ◌++◌, IfOk, string_bytes};
+ghost use Rattle.std.specs.Prelude.{◌≡◌, ◌++◌, IfOk, Some, string_bytes};
+ghost use Rattle.words.specs.Records.{cause_number, rejected_type};
+ghost use Rattle.wire.specs.Faults.{layer_number};
 ghost use Rattle.wire.specs.Frames.{value};
 ghost use Rattle.wire.specs.Reads.{read as read-frame};
-ghost use Rattle.explain.specs.Texts.{book_text, change_text, content_text, explained, fault_text, frame_text, header_text, member_text, message_name, message_text, named_text, parts_text, reason_text, rule_name, rule_text, sending_text, subject_text, tally_text, type_name};
+ghost use Rattle.explain.specs.Texts.{book_text, change_text, content_text, explained, fault_text, frame_text, header_text, member_text, named_text, reason_text, rule_text, sending_text, subject_text};
 
-use crate::hex::to_hex;
+use crate::hex::InHex;
 use std::alloc::{AllocError, Global};
-use wire::{Frame, Header, MetaType, RuleChange, read};
-use words::{BookRun, Member, MessageHead, MessageKind, Rule, RuleKind};
+use std::fmt;
+use wire::{ContentRun, FaultCode, Frame, Header, RuleChange, read};
+use words::{Applicant, BookRun, Member, MessageHead, Reason, Rule};
 
-fn type_name(kind: MetaType) -> &'static str
-    ensures { result.now ≡ type_name kind }
-{
-    match kind {
-        MetaType::Rejection => "rejection",
-        MetaType::YouAreDead => "you_are_dead",
-        MetaType::Invite => "invite",
-        MetaType::Disinvite => "disinvite",
-        MetaType::ModuleRegistration => "module_registration",
-        MetaType::YouAreIn => "you_are_in",
-        MetaType::IAmStarting => "I_am_starting",
-        MetaType::Subscribe => "subscribe",
-        MetaType::Unsubscribe => "unsubscribe",
-        MetaType::IAmStopping => "I_am_stopping",
-        MetaType::CellStatus => "cell_status",
+// A part of what is explained, printed in plain words.
+#[derive(Clone, Copy)]
+struct Plain<T>(T);
+
+impl fmt::Display for Plain<Header> {
+    ghost output = { λ p. Some (header_text p.0) };
+
+    fn fmt<W: fmt::Write>(&self, f: &mut fmt::Formatter<W>) -> fmt::Result {
+        let Header {
+            kind,
+            role,
+            reference,
+            time,
+        } = self.0;
+        write!(f, "{kind} role {role} reference {reference} time {time}")
     }
 }
 
-fn message_name(kind: MessageKind) -> &'static str
-    ensures { result.now ≡ message_name kind }
-{
-    match kind {
-        MessageKind::Published => "published",
-        MessageKind::Announced => "announced",
-        MessageKind::Private => "private",
+impl fmt::Display for Plain<Member> {
+    ghost output = { λ p. Some (named_text p.0) };
+
+    fn fmt<W: fmt::Write>(&self, f: &mut fmt::Formatter<W>) -> fmt::Result {
+        let Member { number, role, port } = self.0;
+        write!(f, " member {number} {role} {port}")
     }
 }
 
-fn rule_name(kind: RuleKind) -> &'static str
-    ensures { result.now ≡ rule_name kind }
-{
-    match kind {
-        RuleKind::Subscription => "subscription",
-        RuleKind::Invitation => "invitation",
+// A module that has no number yet shows number 0.
+impl fmt::Display for Plain<Applicant> {
+    ghost output = { λ p. Some (member_text 0 p.0.role p.0.port) };
+
+    fn fmt<W: fmt::Write>(&self, f: &mut fmt::Formatter<W>) -> fmt::Result {
+        let Applicant { role, port } = self.0;
+        Plain(Member {
+            number: 0,
+            role,
+            port,
+        })
+        .fmt(f)
     }
 }
 
-fn header_text(heap: Global, h: Header) -> Result<String, AllocError>
-    ensures { IfOk result (λ s. string_bytes s ≡ header_text h) }
-{
-    let name = type_name(h.kind);
-    let role = h.role;
-    let reference = h.reference;
-    let time = h.time;
-    format!(in heap; "{name} role {role} reference {reference} time {time}")
-}
+impl fmt::Display for Plain<Rule> {
+    ghost output = { λ p. Some (rule_text p.0) };
 
-fn member_text(heap: Global, number: u8, role: u8, port: u8) -> Result<String, AllocError>
-    ensures { IfOk result (λ s. string_bytes s ≡ member_text number role port) }
-{
-    format!(in heap; " member {number} {role} {port}")
-}
-
-fn rule_text(heap: Global, rule: Rule) -> Result<String, AllocError>
-    ensures { IfOk result (λ s. string_bytes s ≡ rule_text rule) }
-{
-    let name = rule_name(rule.kind);
-    let number = rule.number;
-    let role = rule.role;
-    let subject = rule.subject;
-    format!(in heap; " {name} {number} {role} {subject}")
-}
-
-fn reason_text(heap: Global, rejected: u8, cause: u16) -> Result<String, AllocError>
-    ensures { IfOk result (λ s. string_bytes s ≡ reason_text rejected cause) }
-{
-    format!(in heap; " reason {rejected} {cause}")
-}
-
-fn tally_text(heap: Global, members: usize, rules: usize) -> Result<String, AllocError>
-    ensures { IfOk result (λ s. string_bytes s ≡ tally_text members rules) }
-{
-    format!(in heap; " book {members} members {rules} rules")
-}
-
-fn book_text(heap: Global, book: &BookRun<'_>) -> Result<String, AllocError>
-    ensures { IfOk result (λ s. string_bytes s ≡ book_text book.now.octets.now) }
-{
-    let tally = book.tally();
-    tally_text(heap, tally.members, tally.rules)
-}
-
-fn change_text(heap: Global, c: &RuleChange) -> Result<String, AllocError>
-    ensures { IfOk result (λ s. string_bytes s ≡ change_text c.now) }
-{
-    let member = member_text(heap, c.member.number, c.member.role, c.member.port)?;
-    let rule = rule_text(heap, c.rule)?;
-    format!(in heap; "{member}{rule}")
-}
-
-fn content_text(heap: Global, octets: &[u8]) -> Result<String, AllocError>
-    ensures { IfOk result (λ s. string_bytes s ≡ content_text octets.now) }
-{
-    if octets.is_empty() {
-        String::from_str(heap, "-")
-    } else {
-        to_hex(heap, octets)
+    fn fmt<W: fmt::Write>(&self, f: &mut fmt::Formatter<W>) -> fmt::Result {
+        let Rule {
+            kind,
+            number,
+            role,
+            subject,
+        } = self.0;
+        write!(f, " {kind} {number} {role} {subject}")
     }
 }
 
-// Who sends a message to whom.
-fn sending_text(heap: Global, head: &MessageHead) -> Result<String, AllocError>
-    ensures { IfOk result (λ s. string_bytes s ≡ sending_text head.now) }
-{
-    let name = message_name(head.kind);
-    let receiver = head.receiver;
-    let sender = head.sender;
-    let role = head.role;
-    format!(in heap; "{name} to {receiver} from {sender} role {role}")
-}
+impl fmt::Display for Plain<RuleChange> {
+    ghost output = { λ p. Some (change_text p.0) };
 
-// What a message is about.
-fn subject_text(heap: Global, head: &MessageHead) -> Result<String, AllocError>
-    ensures { IfOk result (λ s. string_bytes s ≡ subject_text head.now) }
-{
-    let subject = head.subject;
-    let priority = head.priority;
-    let context = head.context;
-    format!(in heap; " subject {subject} priority {priority} context {context}")
-}
-
-fn message_text(heap: Global, head: &MessageHead, octets: &[u8]) -> Result<String, AllocError>
-    ensures { IfOk result (λ s. string_bytes s ≡ message_text head.now octets.now) }
-{
-    let sending = sending_text(heap, head)?;
-    let subject = subject_text(heap, head)?;
-    let content = content_text(heap, octets)?;
-    format!(in heap; "{sending}{subject} content {content}")
-}
-
-fn admission_text(heap: Global, member: &Member, book: &BookRun<'_>) -> Result<String, AllocError>
-    ensures { IfOk result (λ s. string_bytes s ≡ named_text member.now ++ book_text book.now.octets.now) }
-{
-    let named = named_text(heap, member)?;
-    let text = book_text(heap, book)?;
-    format!(in heap; "{named}{text}")
-}
-
-fn named_text(heap: Global, member: &Member) -> Result<String, AllocError>
-    ensures { IfOk result (λ s. string_bytes s ≡ named_text member.now) }
-{
-    member_text(heap, member.number, member.role, member.port)
-}
-
-// What follows the header, by type; of a message everything.
-fn parts_text(heap: Global, frame: &Frame<'_>) -> Result<String, AllocError>
-    ensures { IfOk result (λ s. string_bytes s ≡ parts_text (value frame.now)) }
-{
-    match frame {
-        Frame::Rejection { reason, .. } => reason_text(
-            heap,
-            reason.rejected.number(),
-            reason.cause.number(),
-        ),
-        Frame::YouAreDead { .. } => Ok(String::new(heap)),
-        Frame::Invite(c) => change_text(heap, c),
-        Frame::Disinvite(c) => change_text(heap, c),
-        Frame::ModuleRegistration { applicant, .. } => member_text(
-            heap,
-            0,
-            applicant.role,
-            applicant.port,
-        ),
-        Frame::YouAreIn { member, book, .. } => admission_text(heap, member, book),
-        Frame::IAmStarting { member, .. } => named_text(heap, member),
-        Frame::Subscribe(c) => change_text(heap, c),
-        Frame::Unsubscribe(c) => change_text(heap, c),
-        Frame::IAmStopping { member, .. } => named_text(heap, member),
-        Frame::CellStatus { book, .. } => book_text(heap, book),
-        Frame::Message { head, content } => message_text(heap, head, content.octets),
+    fn fmt<W: fmt::Write>(&self, f: &mut fmt::Formatter<W>) -> fmt::Result {
+        write!(f, "{}{}", Plain(self.0.member), Plain(self.0.rule))
     }
 }
 
-fn frame_text(heap: Global, frame: &Frame<'_>) -> Result<String, AllocError>
-    ensures { IfOk result (λ s. string_bytes s ≡ frame_text (value frame.now)) }
-{
-    let parts = parts_text(heap, frame)?;
-    match frame.header() {
-        Some(h) => {
-            let header = header_text(heap, h)?;
-            format!(in heap; "{header}{parts}")
+impl fmt::Display for Plain<Reason> {
+    ghost output = { λ p. Some (reason_text (rejected_type p.0.rejected) (cause_number p.0.cause)) };
+
+    fn fmt<W: fmt::Write>(&self, f: &mut fmt::Formatter<W>) -> fmt::Result {
+        write!(
+            f,
+            " reason {} {}",
+            self.0.rejected.number(),
+            self.0.cause.number()
+        )
+    }
+}
+
+impl fmt::Display for Plain<BookRun<'_>> {
+    ghost output = { λ p. Some (book_text p.0.octets.now) };
+
+    fn fmt<W: fmt::Write>(&self, f: &mut fmt::Formatter<W>) -> fmt::Result {
+        let tally = self.0.tally();
+        write!(f, " book {} members {} rules", tally.members, tally.rules)
+    }
+}
+
+// Who sends a message to whom, and what it is about.
+impl fmt::Display for Plain<MessageHead> {
+    ghost output = { λ p. Some (sending_text p.0 ++ subject_text p.0) };
+
+    fn fmt<W: fmt::Write>(&self, f: &mut fmt::Formatter<W>) -> fmt::Result {
+        let MessageHead {
+            kind,
+            receiver,
+            sender,
+            role,
+            subject,
+            priority,
+            context,
+        } = self.0;
+        write!(f, "{kind} to {receiver} from {sender} role {role}")?;
+        write!(
+            f,
+            " subject {subject} priority {priority} context {context}"
+        )
+    }
+}
+
+impl fmt::Display for Plain<ContentRun<'_>> {
+    ghost output = { λ p. Some (content_text p.0.octets.now) };
+
+    fn fmt<W: fmt::Write>(&self, f: &mut fmt::Formatter<W>) -> fmt::Result {
+        if self.0.octets.is_empty() {
+            f.write_str("-")
+        } else {
+            InHex(self.0.octets).fmt(f)
         }
-        None => Ok(parts),
     }
 }
 
-fn fault_text(heap: Global, number: u8, place: usize, layer: u8) -> Result<String, AllocError>
-    ensures { IfOk result (λ s. string_bytes s ≡ fault_text number place layer) }
-{
-    format!(in heap; "fault {number} at {place} layer {layer}")
+impl fmt::Display for Plain<Frame<'_>> {
+    ghost output = { λ p. Some (frame_text (value p.0)) };
+
+    fn fmt<W: fmt::Write>(&self, f: &mut fmt::Formatter<W>) -> fmt::Result {
+        if let Some(header) = self.0.header() {
+            Plain(header).fmt(f)?;
+        }
+        match self.0 {
+            Frame::Rejection { reason, .. } => Plain(reason).fmt(f),
+            Frame::YouAreDead { .. } => Ok(()),
+            // One arm for these four leaves the text of a frame with a header unproved.
+            Frame::Invite(change) => Plain(change).fmt(f),
+            Frame::Disinvite(change) => Plain(change).fmt(f),
+            Frame::Subscribe(change) => Plain(change).fmt(f),
+            Frame::Unsubscribe(change) => Plain(change).fmt(f),
+            Frame::ModuleRegistration { applicant, .. } => Plain(applicant).fmt(f),
+            Frame::YouAreIn { member, book, .. } => {
+                write!(f, "{}{}", Plain(member), Plain(book))
+            }
+            Frame::IAmStarting { member, .. } | Frame::IAmStopping { member, .. } => {
+                Plain(member).fmt(f)
+            }
+            Frame::CellStatus { book, .. } => Plain(book).fmt(f),
+            Frame::Message { head, content } => {
+                write!(f, "{} content {}", Plain(head), Plain(content))
+            }
+        }
+    }
+}
+
+impl fmt::Display for Plain<FaultCode> {
+    ghost output = { λ p. Some (fault_text p.0.number p.0.place (layer_number p.0.layer)) };
+
+    fn fmt<W: fmt::Write>(&self, f: &mut fmt::Formatter<W>) -> fmt::Result {
+        let FaultCode {
+            number,
+            place,
+            layer,
+        } = self.0;
+        write!(f, "fault {number} at {place} layer {}", layer.number())
+    }
 }
 
 // What the octets are: a frame in plain words, or the first fault with its place and layer.
@@ -206,10 +180,7 @@ pub fn explain(heap: Global, octets: &[u8]) -> Result<String, AllocError>
     ensures { IfOk result (λ s. string_bytes s ≡ explained (read-frame octets.now)) }
 {
     match read(octets) {
-        Ok(frame) => frame_text(heap, &frame),
-        Err(fault) => {
-            let code = fault.code();
-            fault_text(heap, code.number, code.place, code.layer.number())
-        }
+        Ok(frame) => format!(in heap; "{}", Plain(frame)),
+        Err(fault) => format!(in heap; "{}", Plain(fault.code())),
     }
 }

@@ -4,19 +4,16 @@
 use explain::{answer_line, line_end};
 use std::io::Read;
 
-// Prints the answer to each line of the dump, in their order.
+// Prints the answer to each line of the dump, in their order. Lines are cut by `line_end`, whose contract says where one
+// ends; of `split` no contract here would say it.
 fn answer_dump(rt: &HostRuntime, dump: &[u8]) -> anyhow::Result<()> {
     let mut rest = dump;
-    while rest.len() > 0 {
+    while !rest.is_empty() {
         let (line, after) = rest.split_at(line_end(rest));
         if let Some(text) = answer_line(rt.alloc(), line)? {
             println!(rt; "{text}")?;
         }
-        rest = if after.len() > 0 {
-            after.split_at(1).1
-        } else {
-            after
-        };
+        rest = after.get(1..).unwrap_or(&[]);
     }
     Ok(())
 }
