@@ -1,16 +1,14 @@
 -- A lawful rule is fair at every port. Assumes nothing.
-use Rattle.std.proofs.Common.{◌≡◌, ℕ, zero, suc, ◌<◌, ◌≤◌, true, eqb, List, [], ◌∷◌, map, length, sym, refl, ap, ◌∙◌, arith}
+use Rattle.std.proofs.Common.{◌≡◌, ℕ, ◌<◌, ◌≤◌, true, eqb, List, map, length, sym, ap, ◌∙◌, arith}
 use Rattle.std.specs.List.{remove}
+use Rattle.std.proofs.lemmas.List.{drop-map, map-append, take-map}
 use Rattle.std.proofs.lemmas.Bool.{cond_both, eqb-true}
 use Rattle.line.specs.Lines.{Lawful, Rule, Waiting, longest_frame, without}
 use Rattle.line.specs.Laws.{Fair}
 use Rattle.line.proofs.Admits.{admits_is, fits_parts, is_ranged}
 
 pub lengths_removed : (fs : List (List ℕ)) (i : ℕ) → map length (remove fs i) ≡ remove (map length fs) i
-lengths_removed [] zero = refl
-lengths_removed [] (suc i) = refl
-lengths_removed (f ∷ fs) zero = refl
-lengths_removed (f ∷ fs) (suc i) = ap (λ ns. length f ∷ ns) (lengths_removed fs i)
+lengths_removed fs i = simp (map-append, take-map, drop-map)
 
 -- whichever port it is gone from
 still : (rule : Rule) (w : Waiting) (port at i n : ℕ) → Lawful rule → 0 < n → n ≤ longest_frame → rule (map length (w port)) n ≡ true → rule (map length (without w at i port)) n ≡ true

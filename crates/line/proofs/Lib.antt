@@ -2,7 +2,6 @@
 pub mod Admits
 pub mod AtPorts
 pub mod Fairness
-pub mod Looks
 pub mod Masks
 pub mod Offers
 pub mod Serving

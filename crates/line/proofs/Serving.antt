@@ -1,6 +1,7 @@
 -- What offering to several ports comes to. Assumes nothing.
 use Rattle.std.proofs.Common.{◌≡◌, ℕ, ◌<◌, Bool, true, false, cond, not, ◌&&◌, ◌||◌, eqb, List, [], ◌∷◌, ◌++◌, map, length, sym, refl, ap, ◌∙◌, ⊎_elim}
 use Rattle.std.proofs.lemmas.Bool.{and_parts, and_right, cases_eq, cond_both, eq-eqb, ne_eqb, not-true, or_parts, eqb-false}
+use Rattle.std.proofs.Math.Bool.{and-true, or-false}
 use Rattle.line.specs.Lines.{Rule, Waiting, added, admits, in_range}
 use Rattle.line.specs.Laws.{Served, in_mask, once, stands}
 use Rattle.line.specs.Offers.{mask_bits, missed, missed_all, offered, offered_all, port_bit}
@@ -51,18 +52,10 @@ queued rule w (p ∷ ps) f e q =
     ∙ ap (λ b. cond ((b || stands q ps) && admits rule w q (length f)) (w q ++ f ∷ []) (w q)) (sym (ne_eqb q p other)))
     (cases_eq q p)
 
-or_none : (b : Bool) → b || false ≡ b
-or_none true = refl
-or_none false = refl
-
-and_all : (b : Bool) → b && true ≡ b
-and_all true = refl
-and_all false = refl
-
 -- the bit of a port, if it does not fit there
 bit_unless : (p q : ℕ) (b : Bool) → q < mask_bits → in_mask (cond b 0 (port_bit p)) q ≡ eqb q p && not b
 bit_unless p q true h = in_none q ∙ sym (and_right (eqb q p) false refl)
-bit_unless p q false h = in_bit p q h ∙ sym (and_all (eqb q p))
+bit_unless p q false h = in_bit p q h ∙ sym (and-true (eqb q p))
 
 in_missed : (rule : Rule) (w : Waiting) (p : ℕ) (f : List ℕ) (q : ℕ) → q < mask_bits → in_mask (missed rule w p f) q ≡ eqb q p && not (admits rule w p (length f))
 in_missed rule w p f q h = bit_unless p q (admits rule w p (length f)) h
@@ -82,7 +75,7 @@ misses rule w (p ∷ ps) f e q h =
     ap (λ b. (eqb q p && not (admits rule w p n)) || (b && not (admits rule v q n))) last
     ∙ ap (λ x. (eqb q p && not (admits rule w x n)) || false) (sym same)
     ∙ ap (λ b. (b && not (admits rule w q n)) || false) (eq-eqb q p same)
-    ∙ or_none (not (admits rule w q n))
+    ∙ or-false (not (admits rule w q n))
     ∙ ap (λ b. (b || stands q ps) && not (admits rule w q n)) (sym (eq-eqb q p same)))
     (λ (other : q ≡ p → ⊥).
     let here = admits_here rule w v q n (offered_other rule w p q f other) in

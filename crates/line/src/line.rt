@@ -7,21 +7,21 @@ use std::alloc::{AllocError, Global};
 // The ports are 0 to 15.
 pub const PORTS: usize = 16;
 
-// A frame has 1 to 1,012 octets.
+// A frame has 1 to 1,012 octets. This crate rests on no other, so it has the number by itself.
 pub const LONGEST_FRAME: usize = 1_012;
 
 // Whether this is a port of a line, and this the length of a frame.
 pub fn in_range(port: usize, length: usize) -> bool
     ensures { result ≡ in_range port length }
 {
-    port < PORTS && 0 < length && length <= LONGEST_FRAME
+    port < PORTS && (1..=LONGEST_FRAME).contains(&length)
 }
 
 pub trait Line: Sized {
     // At each port the waiting frames, oldest first.
     ghost waiting: { Self → Waiting };
 
-    // The same rule at every port. No call changes it.
+    // The same rule at every port. No call changes it; each says so, since a line may choose its rule when it is made.
     ghost fitting: { Self → Rule };
 
     // A line with nothing waiting.

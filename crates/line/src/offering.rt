@@ -4,7 +4,7 @@ ghost use Rattle.line.specs.Offers.{missed, missed_all, offered, offered_all, po
 
 use crate::line::Line;
 
-const MASK_BITS: usize = 64;
+const MASK_BITS: usize = u64::BITS as usize;
 
 fn port_bit(port: usize) -> u64
     ensures { result ≡ port_bit port }

@@ -9,9 +9,9 @@ mod random;
 #[cfg(test)]
 mod model;
 
-// Every call, on a line and on its model.
+// A line and its model, side by side.
 #[cfg(test)]
-mod calls;
+mod pair;
 
 // Long runs.
 #[cfg(test)]

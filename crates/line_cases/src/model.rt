@@ -1,11 +1,34 @@
 // A line as a plain list of frames with their ports, oldest first.
+use line::FaultyLine;
+use lines::{PackedLine, SlotLine};
 use std::alloc::Global;
+use std::marker::PhantomData;
 use std::test::Fail;
 
-#[derive(Clone, Copy)]
-pub(crate) enum Kind {
-    Slot,
-    Packed,
+// A line whose rule the model knows, in its own numbers. The rule goes with the type of the line, so that no line can
+// run beside the rule of another.
+pub(crate) trait Ruled: FaultyLine + Drop {
+    // What the frames of a port may take in all.
+    const LIMIT: usize;
+
+    // What a frame of this length takes of that.
+    fn takes(length: usize) -> usize;
+}
+
+impl Ruled for SlotLine {
+    const LIMIT: usize = 4;
+
+    fn takes(_length: usize) -> usize {
+        1
+    }
+}
+
+impl Ruled for PackedLine {
+    const LIMIT: usize = 4_096;
+
+    fn takes(length: usize) -> usize {
+        length.saturating_add(2)
+    }
 }
 
 #[derive(Drop)]
@@ -15,16 +38,17 @@ pub(crate) struct Waiting {
 }
 
 #[derive(Drop)]
-pub(crate) struct Model {
-    kind: Kind,
+pub(crate) struct Model<L> {
     frames: Vec<Waiting>,
+    rule: PhantomData<L>,
 }
 
-impl Model {
-    pub(crate) fn new(heap: Global, kind: Kind) -> Model {
+// A model asks the runtime for memory only, so it takes the heap and not the runtime.
+impl<L: Ruled> Model<L> {
+    pub(crate) fn new(heap: Global) -> Model<L> {
         Model {
-            kind,
             frames: Vec::new(heap),
+            rule: PhantomData,
         }
     }
 
@@ -32,57 +56,37 @@ impl Model {
         if port > 15 || length == 0 || length > 1_012 {
             return false;
         }
-        let mut places = 0usize;
-        let mut taken = length + 2;
-        for frame in self.frames.as_slice() {
-            if frame.port == port {
-                places = places.saturating_add(1);
-                taken = taken.saturating_add(frame.octets.len()).saturating_add(2);
-            }
-        }
-        match self.kind {
-            Kind::Slot => places < 4,
-            Kind::Packed => taken <= 4_096,
-        }
+        let here = self.frames.iter().filter(|frame| frame.port == port);
+        let taken = here.fold(L::takes(length), |taken, frame| {
+            taken.saturating_add(L::takes(frame.octets.len()))
+        });
+        taken <= L::LIMIT
     }
 
     pub(crate) fn put(&mut self, heap: Global, port: usize, frame: &[u8]) -> Result<bool, Fail> {
         let fits = self.fits(port, frame.len());
         if fits {
             let octets = Vec::from_slice(heap, frame)?;
-            let Ok(()) = self.frames.push(Waiting { port, octets }) else {
-                return Err(Fail::new("no memory for the model"));
-            };
+            self.frames.push(Waiting { port, octets })?;
         }
         Ok(fits)
     }
 
-    // Where the k-th frame of the port stands, 1 the oldest.
-    fn place(&self, port: usize, k: usize) -> Option<usize> {
-        let mut ahead = k;
-        for (i, frame) in self.frames.as_slice().iter().enumerate() {
-            if frame.port == port {
-                if ahead == 1 {
-                    return Some(i);
-                }
-                ahead = ahead.saturating_sub(1);
-            }
-        }
-        None
-    }
-
     pub(crate) fn oldest(&self, port: usize) -> Option<&[u8]> {
-        let i = self.place(port, 1)?;
-        let frame = self.frames.as_slice().get(i)?;
+        let frame = self.frames.iter().find(|frame| frame.port == port)?;
         Some(frame.octets.as_slice())
     }
 
+    // The k-th frame of the port goes, 1 the oldest; the answer is its first octet.
     pub(crate) fn lose(&mut self, port: usize, k: usize) -> Option<u8> {
-        let i = self.place(port, k)?;
-        if i >= self.frames.len() {
-            return None;
-        }
+        let ahead = k.checked_sub(1)?;
+        let mut here = self
+            .frames
+            .iter()
+            .enumerate()
+            .filter(|(_, frame)| frame.port == port);
+        let (i, _) = here.nth(ahead)?;
         let gone = self.frames.remove(i);
-        gone.octets.as_slice().first().copied()
+        gone.octets.first().copied()
     }
 }

@@ -1,22 +1,19 @@
 // Long random runs of all calls.
-use crate::calls::{check_look, check_lose, check_offer, check_offer_all, check_put, check_take};
-use crate::model::{Kind, Model};
+use crate::model::Ruled;
+use crate::pair::{Pair, ROOM};
 use crate::random::Random;
-use line::{FaultyLine, Line};
 use lines::{PackedLine, SlotLine};
 use std::alloc::Global;
+use std::iter::successors;
 use std::process::Abort;
 use std::test::Fail;
 
 const TURNS: usize = 4_000;
 
-// One octet past the longest frame.
-const ROOM: usize = 1_013;
-
 // Few ports, so that they fill up; two of them no line has.
 const RUN_PORTS: [usize; 6] = [0, 1, 7, 15, 16, 64];
 
-// Often short, sometimes none, now and then of any length up to one past the longest.
+// Often short, sometimes none, now and then of any length up to one past the longest: a number draws which.
 fn pick_length(random: &mut Random) -> usize {
     match random.below(4) {
         0 => random.below(4),
@@ -25,100 +22,65 @@ fn pick_length(random: &mut Random) -> usize {
     }
 }
 
-// Octets that count up from the first.
+// Octets that count up from the first. Only memory is asked for, so it takes the heap and not the runtime.
 fn counting(heap: Global, first: u8, length: usize) -> Result<Vec<u8>, Fail> {
-    let mut octets = Vec::new(heap);
-    let mut next = first;
-    for _ in 0..length {
-        octets.push(next)?;
-        next = next.wrapping_add(1);
-    }
-    Ok(octets)
+    let octets = successors(Some(first), |octet| Some(octet.wrapping_add(1)));
+    Ok(octets.take(length).collect(heap)?)
 }
 
-fn turn<L: FaultyLine>(
-    rt: &impl Abort,
-    line: &mut L,
-    model: &mut Model,
-    heap: Global,
+fn turn<R: Abort + AllocGlobal, L: Ruled>(
+    pair: &mut Pair<R, L>,
     random: &mut Random,
 ) -> Result<(), Fail> {
     let port = RUN_PORTS[random.below(RUN_PORTS.len())];
     let length = pick_length(random);
-    let octets = counting(heap, random.below(256) as u8, length)?;
+    let octets = counting(pair.rt.alloc(), random.below(256) as u8, length)?;
     let frame = octets.as_slice();
+    // A number draws the call: no switch that a caller sets.
     match random.below(9) {
-        0 => check_take(rt, line, model, heap, port, length),
-        1 => check_take(rt, line, model, heap, port, ROOM),
-        2 => {
-            line.remove(port);
-            let _ = model.lose(port, 1);
-            Ok(())
-        }
-        3 => check_lose(rt, line, model, port, random.below(6)),
-        4 => check_offer(rt, line, model, heap, port, frame),
-        5 => check_offer_all(rt, line, model, heap, &[port, 0, 15, port], frame),
-        6 => check_look(rt, line, model, heap, port, length),
-        _ => check_put(rt, line, model, heap, port, frame),
+        0 => pair.take(port, length)?,
+        1 => pair.take(port, ROOM)?,
+        2 => pair.remove(port),
+        3 => pair.lose(port, random.below(6)),
+        4 => pair.offer(port, frame)?,
+        5 => pair.offer_all(&[port, 0, 15, port], frame)?,
+        6 => pair.look(port, length)?,
+        _ => pair.put(port, frame)?,
     }
+    Ok(())
 }
 
 // What can be seen without a change: the oldest frame of each port, and what fits.
-fn check_state<L: Line>(
-    rt: &impl Abort,
-    line: &L,
-    model: &Model,
-    heap: Global,
+fn check_state<R: Abort + AllocGlobal, L: Ruled>(
+    pair: &Pair<R, L>,
     length: usize,
 ) -> Result<(), Fail> {
     for port in &RUN_PORTS {
-        check_look(rt, line, model, heap, *port, ROOM)?;
-        assert_eq!(rt; line.fits(*port, length), model.fits(*port, length));
+        pair.look(*port, ROOM)?;
+        pair.fits(*port, length);
     }
     Ok(())
 }
 
-// Everything that is left, frame by frame.
-fn drain<L: Line>(
-    rt: &impl Abort,
-    line: &mut L,
-    model: &mut Model,
-    heap: Global,
-) -> Result<(), Fail> {
-    for port in 0..17usize {
-        for _ in 0..1_500usize {
-            check_take(rt, line, model, heap, port, ROOM)?;
-        }
-        assert!(rt; model.oldest(port).is_none());
-    }
-    Ok(())
-}
-
-fn run<L: FaultyLine + Drop>(
-    rt: &impl Abort,
-    heap: Global,
-    kind: Kind,
-    seed: u64,
-) -> Result<(), Fail> {
-    let mut line = L::empty(heap)?;
-    let mut model = Model::new(heap, kind);
+fn run<L: Ruled>(rt: &(impl Abort + AllocGlobal), seed: u64) -> Result<(), Fail> {
+    let mut pair: Pair<_, L> = Pair::new(rt)?;
     let mut random = Random { state: seed };
     for _ in 0..TURNS {
-        turn(rt, &mut line, &mut model, heap, &mut random)?;
+        turn(&mut pair, &mut random)?;
         let length = pick_length(&mut random);
-        check_state(rt, &line, &model, heap, length)?;
+        check_state(&pair, length)?;
     }
-    drain(rt, &mut line, &mut model, heap)
+    pair.drain()
 }
 
 #[test]
 fn a_packed_line_answers_as_a_list_of_frames(rt: HostRuntime) -> Result<(), Fail> {
-    run::<PackedLine>(&rt, rt.alloc(), Kind::Packed, 1)?;
-    run::<PackedLine>(&rt, rt.alloc(), Kind::Packed, 2)
+    run::<PackedLine>(&rt, 1)?;
+    run::<PackedLine>(&rt, 2)
 }
 
 #[test]
 fn a_slot_line_answers_as_a_list_of_frames(rt: HostRuntime) -> Result<(), Fail> {
-    run::<SlotLine>(&rt, rt.alloc(), Kind::Slot, 3)?;
-    run::<SlotLine>(&rt, rt.alloc(), Kind::Slot, 4)
+    run::<SlotLine>(&rt, 3)?;
+    run::<SlotLine>(&rt, 4)
 }

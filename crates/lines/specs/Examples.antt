@@ -3,7 +3,8 @@
 --     right e          the rule says so
 --     examples         the list of them
 --     Examples         each of them is right
-use Rattle.std.specs.Prelude.{◌≡◌, ℕ, Bool, true, false, cond, not, ◌&&◌, List, [], ◌∷◌}
+use Rattle.std.specs.Prelude.{◌≡◌, ℕ, Bool, true, false, cond, not, List, [], ◌∷◌}
+use Rattle.std.specs.List.{list_all}
 use Rattle.line.specs.Lines.{Rule}
 use Rattle.lines.specs.Rules.{packed, slots}
 
@@ -16,10 +17,6 @@ pub record Example : Type 0 where
 abbrev pub right : Example → Bool
 right e = cond e.fits (e.rule e.waiting e.new) (not (e.rule e.waiting e.new))
 
-abbrev pub all_right : List Example → Bool
-all_right [] = true
-all_right (e ∷ es) = right e && all_right es
-
 abbrev pub examples : List Example
 examples =
     record { rule = packed; waiting = 1012 ∷ 1012 ∷ 1012 ∷ 1012 ∷ []; new = 38; fits = true }
@@ -29,4 +26,4 @@ examples =
     ∷ []
 
 abbrev pub Examples : Type 0
-Examples = all_right examples ≡ true
+Examples = list_all right examples ≡ true

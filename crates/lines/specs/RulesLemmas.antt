@@ -1,57 +1,49 @@
 -- Laws of the two fitting rules. Assumes nothing.
-use Rattle.std.specs.Prelude.{◌≡◌, ℕ, zero, suc, ◌+◌, ◌*◌, ◌≤◌, true, ◌&&◌, List, [], ◌∷◌, ◌++◌, map, length, nat_le, nat_lt, refl}
-use Rattle.std.proofs.Common.{◌∙◌, arith}
-use Rattle.std.specs.List.{remove}
+use Rattle.std.specs.Prelude.{◌≡◌, ℕ, zero, suc, ◌+◌, ◌*◌, ◌≤◌, true, List, [], ◌∷◌, map, length, refl}
+use Rattle.std.proofs.Common.{arith, length-append, length-drop, length-take}
+use Rattle.std.specs.List.{All, remove, sum}
 use Rattle.std.proofs.lemmas.List.{length-map}
-use Rattle.std.proofs.lemmas.Bool.{and_parts, le-leb, leb-true, lt-ltb, ltb-true}
-use Rattle.line.specs.Lines.{Lawful, Sized, Waiting, admits, longest_frame}
-use Rattle.line.proofs.Admits.{admits_is, fits_parts, is_ranged}
-use Rattle.lines.specs.Cuts.{all_sized, total}
+use Rattle.std.proofs.lemmas.List.Elements.{All-head, All-tail}
+use Rattle.std.proofs.lemmas.List.Sums.{sum_by-cons}
+use Rattle.std.proofs.lemmas.Bool.{le-leb, leb-true, lt-ltb, ltb-true}
+use Rattle.line.specs.Lines.{Lawful, Sized, longest_frame}
+use Rattle.lines.specs.Cuts.{IsLength}
 use Rattle.lines.specs.Rules.{packed, slots, taken_up}
 use Rattle.lines.specs.Sizes.{overhead, port_octets, slot_count}
 
-pub taken_is : (ns : List ℕ) → taken_up ns ≡ total ns + overhead * length ns
+pub taken_is : (ns : List ℕ) → taken_up ns ≡ sum ns + overhead * length ns
 taken_is [] = refl
-taken_is (n ∷ ns) = omega (arith, taken_is ns)
-
-pub taken_push : (ns : List ℕ) (n : ℕ) → taken_up (ns ++ n ∷ []) ≡ taken_up ns + (n + overhead)
-taken_push [] n = omega arith
-taken_push (m ∷ ns) n = omega (arith, taken_push ns n)
+taken_is (n ∷ ns) = omega (arith, taken_is ns, sum_by-cons (λ m. m) n ns, sum_by-cons (λ m. m + overhead) n ns)
 
 pub taken_removed : (ns : List ℕ) (i : ℕ) → taken_up (remove ns i) ≤ taken_up ns
 taken_removed [] zero = omega arith
 taken_removed [] (suc i) = omega arith
-taken_removed (n ∷ ns) zero = omega arith
-taken_removed (n ∷ ns) (suc i) = omega (arith, taken_removed ns i)
+taken_removed (n ∷ ns) zero = omega (arith, sum_by-cons (λ m. m + overhead) n ns)
+taken_removed (n ∷ ns) (suc i) = omega (arith, taken_removed ns i, sum_by-cons (λ m. m + overhead) n ns, sum_by-cons (λ m. m + overhead) n (remove ns i))
 
 -- a frame takes one octet of its own or more
-pub count_below : (ns : List ℕ) → all_sized ns ≡ true → length ns ≤ total ns
+pub count_below : (ns : List ℕ) → All IsLength ns → length ns ≤ sum ns
 count_below [] e = omega arith
 count_below (n ∷ ns) e =
-    let p = and_parts (nat_lt 0 n && nat_le n longest_frame) (all_sized ns) e in
-    let some = ltb-true 0 n (and_parts (nat_lt 0 n) (nat_le n longest_frame) p.0).0 in
-    omega (arith, count_below ns p.1)
+    let some = All-head IsLength n ns e in
+    omega (arith, count_below ns (All-tail IsLength n ns e), sum_by-cons (λ m. m) n ns)
 
 length_removed : (ns : List ℕ) (i : ℕ) → length (remove ns i) ≤ length ns
-length_removed [] zero = omega arith
-length_removed [] (suc i) = omega arith
-length_removed (n ∷ ns) zero = omega arith
-length_removed (n ∷ ns) (suc i) = omega (arith, length_removed ns i)
+length_removed ns i = simp (length-append, length-take, length-drop) (omega arith)
 
 sized_taken : (fs : List (List ℕ)) → Sized fs → taken_up (map length fs) ≤ (longest_frame + overhead) * length fs
 sized_taken [] s = omega arith
-sized_taken (f ∷ fs) s = let t = sized_taken fs s.1 in let h = s.0.1 in omega arith
+sized_taken (f ∷ fs) s =
+    let h = s.0.1 in
+    omega (arith, sized_taken fs s.1, sum_by-cons (λ m. m + overhead) (length f) (map length fs))
 
 -- what fits the slot line would fit the packed line
-pub slots-packed : (w : Waiting) (port n : ℕ) → Sized (w port) → admits slots w port n ≡ true → admits packed w port n ≡ true
-slots-packed w port n s e =
-    let f = fits_parts slots w port n e in
-    let r = f.range in
-    let few = ltb-true (length (map length (w port))) slot_count f.ruled in
-    let same = length-map (w port) length in
-    let t = sized_taken (w port) s in
-    admits_is packed w port n (is_ranged port n r.within r.some r.short)
-    ∙ le-leb (taken_up (map length (w port)) + (n + overhead)) port_octets (omega arith)
+pub slots_packed : (fs : List (List ℕ)) (n : ℕ) → Sized fs → n ≤ longest_frame → slots (map length fs) n ≡ true → packed (map length fs) n ≡ true
+slots_packed fs n s h e =
+    let few = ltb-true (length (map length fs)) slot_count e in
+    let same = length-map fs length in
+    let t = sized_taken fs s in
+    le-leb (taken_up (map length fs) + (n + overhead)) port_octets (omega arith)
 
 pub packed_lawful : Lawful packed
 packed_lawful = record {

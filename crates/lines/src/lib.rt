@@ -7,18 +7,23 @@ mod sizes;
 // The frames of one port.
 mod queue;
 
-// The queues of all ports.
-mod ports;
+// The rule by which a new frame fits.
+mod fitting;
+
+// The line over a rule.
+mod port_line;
+
+pub use port_line::PortLine;
 
 // The line with 4,096 octets a port.
 mod packed;
 
-pub use packed::PackedLine;
+pub use packed::{Packed, PackedLine};
 
 // The line with 4 places a port.
 mod slot;
 
-pub use slot::SlotLine;
+pub use slot::{SlotLine, Slots};
 
 // Worked examples of the fitting rules.
 mod laws;

@@ -1,58 +1,25 @@
 // The slot line: a port has 4 places, and a waiting frame takes one.
-ghost use Rattle.lines.specs.PortLists.{lists};
 ghost use Rattle.lines.specs.Rules.{slots};
-ghost use Rattle.lines.specs.RulesLemmas.{slots_lawful};
-ghost use Rattle.lines.specs.PortListsLemmas.{each_sized, at_past};
+ghost use Rattle.lines.specs.RulesLemmas.{slots_lawful, slots_packed};
 
-use crate::ports::Ports;
+use crate::fitting::Fitting;
+use crate::port_line::PortLine;
+use crate::queue::Queue;
 use crate::sizes::SLOTS;
-use line::{FaultyLine, Line, in_range};
-use std::alloc::{AllocError, Global};
 
-#[derive(Drop)]
-pub struct SlotLine {
-    ports: Ports,
-}
+pub type SlotLine = PortLine<Slots>;
 
-impl Line for SlotLine {
-    ghost waiting = { λ l. lists l.ports };
+// The rule of the slot line, as a type: no line needs a value of it.
+pub struct Slots;
 
-    ghost fitting = { λ _. slots };
+impl Fitting for Slots {
+    ghost rule = { slots };
 
-    ghost lawful = { λ l. slots_lawful };
+    ghost lawful = { slots_lawful };
 
-    ghost sized = { λ l p. each_sized l.ports.queues.items p };
+    ghost within = { λ fs n s h e. slots_packed fs n s h e };
 
-    ghost outside = { λ l p h. at_past l.ports p h };
-
-    fn empty(heap: Global) -> Result<SlotLine, AllocError> {
-        let ports = Ports::new(heap)?;
-        Ok(SlotLine { ports })
-    }
-
-    fn fits(&self, port: usize, length: usize) -> bool {
-        in_range(port, length) && self.ports.count(port) < SLOTS
-    }
-
-    fn put(&mut self, port: usize, frame: &[u8]) -> bool {
-        let fits = self.fits(port, frame.len());
-        if fits {
-            self.ports.push(port, frame);
-        }
-        fits
-    }
-
-    fn look(&self, port: usize, buffer: &mut [u8]) -> Option<usize> {
-        self.ports.look(port, buffer)
-    }
-
-    fn remove(&mut self, port: usize) {
-        self.ports.remove_at(port, 0);
-    }
-}
-
-impl FaultyLine for SlotLine {
-    fn lose(&mut self, port: usize, k: usize) -> Option<u8> {
-        self.ports.lose(port, k)
+    fn fits(queue: &Queue, _new: usize) -> bool {
+        queue.count() < SLOTS
     }
 }

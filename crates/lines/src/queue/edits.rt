@@ -15,6 +15,7 @@ impl Queue {
         requires room { packed (map length (frames self.old)) (length frame.now) ≡ true }
         ensures { frames self.new ≡ frames self.old ++ frame.now ∷ [] }
     {
+        // At most 1,012, so a checked conversion would have an error that cannot be.
         let n = frame.len() as u16;
         // There is room for both, so neither fails.
         self.lengths.push_reserved(n);
@@ -25,14 +26,10 @@ impl Queue {
     pub(crate) fn remove_at(&mut self, i: usize)
         ensures { frames self.new ≡ remove (frames self.old) i }
     {
-        if i >= self.lengths.len() {
+        let Some(span) = self.span(i) else {
             return;
-        }
-        let span = self.span(i);
+        };
         self.lengths.remove(i);
-        let end = self.octets.len();
-        self.octets
-            .copy_within(span.start + span.length..end, span.start);
-        self.octets.truncate(end - span.length);
+        self.octets.drain(span);
     }
 }

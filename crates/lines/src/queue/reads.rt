@@ -1,13 +1,16 @@
 // A queue is made, and asked.
-ghost use Rattle.std.specs.Prelude.{◌≡◌, ◌≤◌, [], map, length, IfOk};
-ghost use Rattle.line.specs.Lines.{copied, looked};
-ghost use Rattle.lines.specs.Queues.{frames, octet_at};
+ghost use Rattle.std.specs.Prelude.{◌≡◌, ◌+◌, ◌<◌, ◌≤◌, [], map, take, length, slice_index, vec_len, IfOk, IfSome, IsSome, ◌↔◌};
+ghost use Rattle.std.specs.List.{sum};
+ghost use Rattle.line.specs.Lines.{copied, first_of, looked};
+ghost use Rattle.lines.specs.Cuts.{IsPiece};
+ghost use Rattle.lines.specs.Queues.{frames};
 ghost use Rattle.lines.specs.Rules.{taken_up};
 ghost use Rattle.lines.specs.Sizes.{port_octets};
 
 use crate::queue::Queue;
 use crate::sizes::{MOST_FRAMES, OVERHEAD, PORT_OCTETS};
 use std::alloc::{AllocError, Global};
+use std::ops::Range;
 
 impl Queue {
     pub(crate) fn new(heap: Global) -> Result<Queue, AllocError>
@@ -33,30 +36,35 @@ impl Queue {
         self.octets.len() + OVERHEAD * self.lengths.len()
     }
 
+    // Where the frame at place i lies among the octets, if there is one.
+    pub(crate) fn span(&self, i: usize) -> Option<Range<usize>>
+        ensures there { IsSome result ↔ (i < vec_len self.now.lengths) }
+        ensures piece { IfSome result (λ s. IsPiece self.now.lengths.items i s.start s.end) }
+        ensures within { IfSome result (λ s. s.end ≤ vec_len self.now.octets) }
+    {
+        let length = usize::from(*self.lengths.get(i)?);
+        let start = self.lengths[..i].iter().map(|n| usize::from(*n)).sum();
+        Some(start..start + length)
+    }
+
     // The oldest frame, copied to the buffer's start.
     pub(crate) fn look(&self, buffer: &mut [u8]) -> Option<usize>
         ensures answer { result ≡ looked (frames self.now) (length buffer.old) }
         ensures copy { buffer.new ≡ copied (frames self.now) buffer.old }
     {
-        if self.lengths.is_empty() {
-            return None;
-        }
-        let n = self.span(0).length;
+        let n = usize::from(*self.lengths.first()?);
         if n > buffer.len() {
             return None;
         }
-        buffer[0..n].copy_from_slice(&self.octets[0..n]);
+        buffer[..n].copy_from_slice(&self.octets[..n]);
         Some(n)
     }
 
     // The first octet of the frame at place i.
     pub(crate) fn first_octet(&self, i: usize) -> Option<u8>
-        ensures { result ≡ octet_at (frames self.now) i }
+        ensures { result ≡ first_of (frames self.now) (i + 1) }
     {
-        if i >= self.lengths.len() {
-            return None;
-        }
-        let span = self.span(i);
+        let span = self.span(i)?;
         Some(self.octets[span.start])
     }
 }
