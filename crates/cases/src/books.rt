@@ -1,7 +1,7 @@
 // Books filled to the brim, and numbers going round.
-use book::{Addition, Audience, Book, Change, Sender};
+use book::{Audience, Book, Change, Envelope, RuleRefusal};
 use std::test::Fail;
-use words::{Member, Rule, RuleKind};
+use words::{Member, ModuleId, Rule, RuleKind};
 
 fn member(number: u8, port: u8) -> Member {
     Member {
@@ -20,6 +20,15 @@ fn rule(number: u8, subject: u16) -> Rule {
     }
 }
 
+// A message on subject 7 that number 2 of role 9 sends.
+fn on_seven(audience: Audience) -> Envelope {
+    Envelope {
+        audience,
+        sender: ModuleId { number: 2, role: 9 },
+        subject: 7,
+    }
+}
+
 #[test]
 fn fifteen_members_and_two_hundred_rules_fill_a_book(rt: HostRuntime) -> Result<(), Fail> {
     let mut book = Book::new(rt.alloc())?;
@@ -28,11 +37,11 @@ fn fifteen_members_and_two_hundred_rules_fill_a_book(rt: HostRuntime) -> Result<
     }
     assert!(rt; !book.add_member(member(16, 16)));
     for subject in 1..201u16 {
-        assert!(rt; matches!(book.add_rule(rule(1, subject)), Addition::New));
+        assert_eq!(rt; book.add_rule(rule(1, subject)), Ok(()));
     }
-    assert!(rt; matches!(book.add_rule(rule(1, 201)), Addition::Full));
-    assert!(rt; matches!(book.add_rule(rule(1, 7)), Addition::Standing));
-    assert!(rt; matches!(book.add_rule(rule(99, 7)), Addition::Refused));
+    assert_eq!(rt; book.add_rule(rule(1, 201)), Err(RuleRefusal::Full));
+    assert_eq!(rt; book.add_rule(rule(1, 7)), Err(RuleRefusal::Standing));
+    assert_eq!(rt; book.add_rule(rule(99, 7)), Err(RuleRefusal::Invalid));
     assert_eq!(rt; book.members().len(), 15);
     assert_eq!(rt; book.rules().len(), 200);
     Ok(())
@@ -44,9 +53,9 @@ fn a_member_that_takes_a_seat_drives_out_two(rt: HostRuntime) -> Result<(), Fail
     assert!(rt; book.add_member(member(1, 4)));
     assert!(rt; book.add_member(member(2, 5)));
     assert!(rt; book.add_member(member(3, 6)));
-    assert!(rt; matches!(book.add_rule(rule(1, 7)), Addition::New));
-    assert!(rt; matches!(book.add_rule(rule(2, 7)), Addition::New));
-    assert!(rt; matches!(book.add_rule(rule(3, 7)), Addition::New));
+    assert_eq!(rt; book.add_rule(rule(1, 7)), Ok(()));
+    assert_eq!(rt; book.add_rule(rule(2, 7)), Ok(()));
+    assert_eq!(rt; book.add_rule(rule(3, 7)), Ok(()));
     assert!(rt; book.apply(Change::Starting(member(1, 5))));
     assert_eq!(rt; book.members().len(), 2);
     assert_eq!(rt; book.rules().len(), 1, "only the rule of number 3 is left");
@@ -76,14 +85,13 @@ fn numbers_go_round_past_those_held(rt: HostRuntime) -> Result<(), Fail> {
 fn one_of_two_rules_that_match_is_enough(rt: HostRuntime) -> Result<(), Fail> {
     let mut book = Book::new(rt.alloc())?;
     let listener = member(1, 4);
-    let sender = Sender { number: 2, role: 9 };
     assert!(rt; book.add_member(listener));
-    assert!(rt; matches!(book.add_rule(rule(1, 7)), Addition::New));
-    assert!(rt; matches!(book.add_rule(rule(1, 0)), Addition::New));
-    assert!(rt; book.receives(Audience::Published, sender, 7, &listener));
+    assert_eq!(rt; book.add_rule(rule(1, 7)), Ok(()));
+    assert_eq!(rt; book.add_rule(rule(1, 0)), Ok(()));
+    assert!(rt; book.receives(on_seven(Audience::Published), &listener));
     assert!(rt; book.remove_rule(&rule(1, 7)));
-    assert!(rt; book.receives(Audience::Published, sender, 7, &listener));
-    assert!(rt; !book.receives(Audience::Announced { domain: 0 }, sender, 7, &listener));
-    assert!(rt; !book.receives(Audience::Private { number: 1 }, sender, 7, &listener));
+    assert!(rt; book.receives(on_seven(Audience::Published), &listener));
+    assert!(rt; !book.receives(on_seven(Audience::Announced { domain: 0 }), &listener));
+    assert!(rt; !book.receives(on_seven(Audience::Private { number: 1 }), &listener));
     Ok(())
 }

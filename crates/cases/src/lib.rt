@@ -1,6 +1,10 @@
 // Worked examples, run: frames written by hand from the format, good and bad; books.
 #![tactic(auto)]
 
+// What a buffer has where nothing was written.
+#[cfg(test)]
+pub(crate) const UNTOUCHED: u8 = 0xA5;
+
 // Octets that are no frame.
 #[cfg(test)]
 mod malformed;

@@ -4,11 +4,8 @@ use Rattle.std.proofs.lemmas.Bool.{both_ways, not-true, not_from_false, eqb-true
 use Rattle.words.specs.declared.applicant.Applicant.{Applicant}
 use Rattle.words.specs.declared.member.Member.{Member}
 use Rattle.words.specs.declared.rule.Rule.{Rule}
-use Rattle.words.specs.declared.rule_key.RuleKey.{RuleKey}
-use Rattle.words.specs.declared.rule_kind.RuleKind.{RuleKind}
-use Rattle.words.specs.declared.rule_kind.RuleKind.TheVariants.{Subscription, Invitation}
 use Rattle.words.specs.Keys.{member_key, rule_key, rule_less}
-use Rattle.words.specs.Records.{rule_kind_number, valid_member}
+use Rattle.words.specs.Records.{valid_member}
 use Rattle.words.specs.Orders.{rule_order}
 use Rattle.table.specs.Ordered.{same}
 use Rattle.book.specs.declared.change.Change.TheVariants.{Starting, Stopping, Enter, Withdraw}
@@ -27,18 +24,10 @@ use Rattle.rules.proofs.Lists.{kept_was, was_kept, some_entered}
 abbrev pub is_rule : Rule → Rule → Bool
 is_rule u v = same rule_less (rule_key u) (rule_key v)
 
-kind_is : (j k : RuleKind) → rule_kind_number j ≡ rule_kind_number k → j ≡ k
-kind_is Subscription Subscription e = refl
-kind_is Subscription Invitation e = absurd (omega arith)
-kind_is Invitation Subscription e = absurd (omega arith)
-kind_is Invitation Invitation e = refl
-
 pub rule_true : (u v : Rule) → is_rule u v ≡ true → u ≡ v
 rule_true u v e =
     let a = and_parts (not (rule_less (rule_key u) (rule_key v))) (not (rule_less (rule_key v) (rule_key u))) e in
-    let k : rule_key u ≡ rule_key v = rule_order.total (rule_key u) (rule_key v) (not-true _ a.0) (not-true _ a.1) in
-    let c = kind_is u.kind v.kind (ap (λ (x : RuleKey). x.kind) k) in
-    λ i. record { kind = c i; number = (k i).number; role = (k i).role; subject = (k i).subject }
+    rule_order.total (rule_key u) (rule_key v) (not-true _ a.0) (not-true _ a.1)
 
 pub rule_self : (u : Rule) → is_rule u u ≡ true
 rule_self u = and_from _ _ (not_from_false _ (rule_order.irreflexive (rule_key u))) (not_from_false _ (rule_order.irreflexive (rule_key u)))

@@ -25,7 +25,7 @@ use Rattle.wire.specs.Frames.{FrameV, invite, disinvite, subscribe, unsubscribe,
 use Rattle.wire.specs.Writes.{write, in_time}
 use Rattle.book.specs.declared.audience.Audience.{Audience}
 use Rattle.book.specs.declared.audience.Audience.TheVariants.{Published, Announced, Private}
-use Rattle.book.specs.declared.audience.Sender.{Sender}
+use Rattle.words.specs.declared.module_id.ModuleId.{ModuleId}
 use Rattle.book.specs.Matching.{receives, recipients, some}
 use Rattle.book.specs.Sound.{holds}
 use Rattle.line.specs.Lines.{Rule as Fitting, Waiting, admits, longest_frame, port_count, without}
@@ -222,12 +222,12 @@ known_to v Published = true
 known_to v (Announced d) = true
 known_to v (Private n) = holds n v.members
 
-abbrev pub invited_by : Listing → Audience → Sender → ℕ → Bool
+abbrev pub invited_by : Listing → Audience → ModuleId → ℕ → Bool
 invited_by v Published f x = true
 invited_by v (Announced d) f x = true
 invited_by v (Private n) f x = some (receives v.rules (Private n) f x) v.members
 
-abbrev pub sender : State → ℕ → Sender
+abbrev pub sender : State → ℕ → ModuleId
 sender s p = record { number = (self s p).number; role = (self s p).role }
 
 abbrev pub copy_for : State → Audience → ℕ → ℕ → ℕ → ℕ → List ℕ → Member → FrameV

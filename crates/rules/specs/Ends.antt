@@ -19,7 +19,7 @@ use Rattle.wire.specs.declared.meta_type.MetaType.{MetaType}
 use Rattle.wire.specs.declared.meta_type.MetaType.TheVariants.{Rejection, YouAreDead, Invite, Disinvite, ModuleRegistration, YouAreIn, IAmStarting, Subscribe, Unsubscribe, IAmStopping, CellStatus}
 use Rattle.book.specs.declared.audience.Audience.{Audience}
 use Rattle.book.specs.declared.audience.Audience.TheVariants.{Published, Announced, Private}
-use Rattle.book.specs.declared.audience.Sender.{Sender}
+use Rattle.words.specs.declared.module_id.ModuleId.{ModuleId}
 use Rattle.book.specs.declared.change.Change.{Change}
 use Rattle.book.specs.declared.change.Change.TheVariants.{Starting, Stopping, Enter, Withdraw}
 use Rattle.book.specs.Matching.{receives}
@@ -80,7 +80,7 @@ for_audience PublishedKind n = Published
 for_audience AnnouncedKind n = Announced 0
 for_audience PrivateKind n = Private n
 
-abbrev pub sender_of : MessageHead → Sender
+abbrev pub sender_of : MessageHead → ModuleId
 sender_of h = record { number = h.sender; role = h.role }
 
 abbrev pub wanted : ℕ → ℕ → ℕ → Listing → MessageHead → Bool

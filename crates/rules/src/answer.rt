@@ -4,7 +4,7 @@ use crate::received::Received;
 use crate::refusal::Refusal;
 use crate::served::Served;
 
-#[derive(Clone, Copy)]
+#[derive(Clone, Copy, PartialEq, Eq, Debug)]
 pub enum Answer {
     Refused(Refusal),
     // 0: there is nothing to tell.

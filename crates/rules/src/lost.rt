@@ -2,26 +2,22 @@
 ghost use Rattle.std.specs.Prelude.{◌≡◌};
 ghost use Rattle.rules.specs.Codes.{lost_by, lost_code};
 
+use wire::FIRST_OF_MESSAGES;
+
 #[derive(Clone, Copy, PartialEq, Eq, Debug)]
 pub enum Lost {
-    Message,
-    Other,
+    Message = 1,
+    Other = 2,
 }
-
-// A first octet below this begins no message.
-const FIRST_OF_MESSAGES: u8 = 128;
 
 impl Lost {
     pub fn code(&self) -> u8
         ensures { result ≡ lost_code self.now }
     {
-        match self {
-            Lost::Message => 1,
-            Lost::Other => 2,
-        }
+        *self as u8
     }
 
-    // Told by the frame's first octet.
+    // Told by the frame's first octet; `from` an octet would not say which.
     pub fn of_first_octet(octet: u8) -> Lost
         ensures { result ≡ lost_by octet }
     {

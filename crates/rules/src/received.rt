@@ -5,7 +5,7 @@ ghost use Rattle.rules.specs.Codes.{received_code, received_fault, received_reas
 use wire::{FaultCode, FrameFault, MetaType};
 use words::Reason;
 
-#[derive(Clone, Copy)]
+#[derive(Clone, Copy, PartialEq, Eq, Debug)]
 pub enum Received {
     // A message for the end, which one of its rules asks for.
     HandedOver { sender: u8 },
@@ -22,6 +22,7 @@ pub enum Received {
 }
 
 impl Received {
+    // Cases that hold values have no discriminants.
     pub fn code(&self) -> u8
         ensures { result ≡ received_code self.now }
     {
@@ -40,12 +41,8 @@ impl Received {
         ensures { result ≡ received_sender self.now }
     {
         match self {
-            Received::HandedOver { sender } => Some(*sender),
-            Received::TurnedAside { sender } => Some(*sender),
-            Received::Read { .. }
-            | Received::Rejected { .. }
-            | Received::Unreadable { .. }
-            | Received::SetAside { .. } => None,
+            Received::HandedOver { sender } | Received::TurnedAside { sender } => Some(*sender),
+            _ => None,
         }
     }
 
@@ -54,12 +51,8 @@ impl Received {
         ensures { result ≡ received_type self.now }
     {
         match self {
-            Received::Read { kind } => Some(kind.number()),
-            Received::SetAside { kind } => Some(kind.number()),
-            Received::HandedOver { .. }
-            | Received::TurnedAside { .. }
-            | Received::Rejected { .. }
-            | Received::Unreadable { .. } => None,
+            Received::Read { kind } | Received::SetAside { kind } => Some(kind.number()),
+            _ => None,
         }
     }
 
@@ -69,11 +62,7 @@ impl Received {
     {
         match self {
             Received::Rejected { reason } => Some(*reason),
-            Received::HandedOver { .. }
-            | Received::TurnedAside { .. }
-            | Received::Read { .. }
-            | Received::Unreadable { .. }
-            | Received::SetAside { .. } => None,
+            _ => None,
         }
     }
 
@@ -83,11 +72,7 @@ impl Received {
     {
         match self {
             Received::Unreadable { fault } => Some(fault.code()),
-            Received::HandedOver { .. }
-            | Received::TurnedAside { .. }
-            | Received::Read { .. }
-            | Received::Rejected { .. }
-            | Received::SetAside { .. } => None,
+            _ => None,
         }
     }
 }

@@ -2,58 +2,44 @@
 ghost use Rattle.std.specs.Prelude.{◌≡◌};
 ghost use Rattle.rules.specs.Codes.{refusal_code, refusal_number};
 
-use wire::{FaultCode, Layer};
+use wire::FaultCode;
 
+// A refused write has the same two numbers, 23 and 12: a discriminant is a number, and names no other.
 #[derive(Clone, Copy, PartialEq, Eq, Debug)]
 pub enum Refusal {
     // A lent buffer is shorter than the longest frame.
-    ShortBuffer,
+    ShortBuffer = 23,
     // The port is none of an end; at `lose`, none of the line.
-    BadPort,
+    BadPort = 11,
     // A value is out of its range.
-    OutOfRange,
+    OutOfRange = 12,
     // The end is not in.
-    NotIn,
+    NotIn = 13,
     // The end is in already.
-    AlreadyIn,
+    AlreadyIn = 14,
     // The end's query numbers are used up.
-    QueriesUsedUp,
+    QueriesUsedUp = 15,
     // No member has the number or the port.
-    NoSuchMember,
+    NoSuchMember = 16,
     // The receiver has no invitation that matches.
-    NotInvited,
+    NotInvited = 17,
     // The frame does not fit at its port.
-    Full,
+    Full = 21,
     // No frame waits there, or none so far back.
-    NothingWaiting,
+    NothingWaiting = 22,
 }
 
 impl Refusal {
     pub fn number(&self) -> u8
         ensures { result ≡ refusal_number self.now }
     {
-        match self {
-            Refusal::ShortBuffer => 23,
-            Refusal::BadPort => 11,
-            Refusal::OutOfRange => 12,
-            Refusal::NotIn => 13,
-            Refusal::AlreadyIn => 14,
-            Refusal::QueriesUsedUp => 15,
-            Refusal::NoSuchMember => 16,
-            Refusal::NotInvited => 17,
-            Refusal::Full => 21,
-            Refusal::NothingWaiting => 22,
-        }
+        *self as u8
     }
 
     // Every refusal lies above the frame, at place 0.
     pub fn code(&self) -> FaultCode
         ensures { result ≡ refusal_code self.now }
     {
-        FaultCode {
-            number: self.number(),
-            place: 0,
-            layer: Layer::Above,
-        }
+        FaultCode::above(self.number())
     }
 }

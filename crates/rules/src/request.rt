@@ -1,6 +1,6 @@
 // What a member asks of the registrar about one of its rules.
 
-#[derive(Clone, Copy)]
+#[derive(Clone, Copy, PartialEq, Eq, Debug)]
 pub enum Request {
     Subscribe,
     Unsubscribe,

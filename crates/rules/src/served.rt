@@ -4,7 +4,7 @@ ghost use Rattle.rules.specs.Codes.{served_code, served_fault, served_missed};
 
 use wire::{FaultCode, FrameFault};
 
-#[derive(Clone, Copy)]
+#[derive(Clone, Copy, PartialEq, Eq, Debug)]
 pub enum Served {
     // The book changed, and the members were told.
     Done { missed: u64 },
@@ -21,6 +21,7 @@ pub enum Served {
 }
 
 impl Served {
+    // Cases that hold values have no discriminants.
     pub fn code(&self) -> u8
         ensures { result ≡ served_code self.now }
     {
@@ -39,12 +40,9 @@ impl Served {
         ensures { result ≡ served_missed self.now }
     {
         match self {
-            Served::Done { missed } => *missed,
-            Served::Unchanged => 0,
-            Served::Rejected { missed } => *missed,
-            Served::Unknown { missed } => *missed,
-            Served::Unreadable { .. } => 0,
-            Served::SetAside => 0,
+            Served::Done { missed } | Served::Rejected { missed } | Served::Unknown { missed } =>
+                *missed,
+            _ => 0,
         }
     }
 
@@ -54,11 +52,7 @@ impl Served {
     {
         match self {
             Served::Unreadable { fault } => Some(fault.code()),
-            Served::Done { .. }
-            | Served::Unchanged
-            | Served::Rejected { .. }
-            | Served::Unknown { .. }
-            | Served::SetAside => None,
+            _ => None,
         }
     }
 }

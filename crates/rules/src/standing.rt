@@ -1,6 +1,6 @@
 // What a module end is.
 
-#[derive(Clone, Copy)]
+#[derive(Clone, Copy, PartialEq, Eq, Debug)]
 pub enum Standing {
     Out,
     // It asked for a number in this role, by this query number.
