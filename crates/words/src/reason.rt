@@ -40,7 +40,8 @@ impl Rejected {
         ensures { result ≡ rejected_numbered number }
     {
         [Rejected::Invite, Rejected::Subscribe]
-            .into_iter()
+            .iter()
+            .copied()
             .find(|rejected| rejected.number() == number)
     }
 }

@@ -90,6 +90,18 @@ impl<'a> Before<'a> {
     }
 }
 
+// How many members and rules there are among the words.
+pub(crate) fn tally_words(book: &[u8]) -> Tally
+    ensures members { result.members ≡ members_before book.now (words_in book.now) }
+    ensures rules { result.rules ≡ rules_before book.now (words_in book.now) }
+{
+    let mut before = Before::none(book);
+    for w in Words::of(book) {
+        before = before.with(w);
+    }
+    before.tally
+}
+
 // The index of the first wrong word; a word cut short is one.
 pub(crate) fn wrong_word(book: &[u8]) -> Option<usize>
     ensures first { result ≡ wrong_word book.now }

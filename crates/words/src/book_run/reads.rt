@@ -5,12 +5,11 @@ ghost use Rattle.words.specs.Runs.{seen_book, words_left};
 ghost use Rattle.words.specs.Books.{book_sound, has_word, members_before, read_book, rules_before, word_of, words_in, words_of};
 
 use crate::book_run::BookRun;
-use crate::book_run::check::wrong_word;
+use crate::book_run::check::{tally_words, wrong_word};
 use crate::book_run::words::Words;
 use crate::fault::WordFault;
 use crate::in_word::InWord;
-use crate::member::{Member, is_member};
-use crate::rule::is_rule;
+use crate::member::Member;
 use crate::tally::Tally;
 use crate::word::{WORD_LEN, word_at};
 
@@ -54,10 +53,7 @@ impl<'a> BookRun<'a> {
         ensures members { result.members ≡ members_before self.now.octets.now (words_in self.now.octets.now) }
         ensures rules { result.rules ≡ rules_before self.now.octets.now (words_in self.now.octets.now) }
     {
-        Tally {
-            members: self.iter().filter(|w| is_member(*w)).count(),
-            rules: self.iter().filter(|w| is_rule(*w)).count(),
-        }
+        tally_words(self.octets)
     }
 
     // Whether the octets are a book.

@@ -37,7 +37,8 @@ impl MessageKind {
             MessageKind::Announced,
             MessageKind::Private,
         ]
-        .into_iter()
+        .iter()
+        .copied()
         .find(|kind| kind.number() == kind_of(w))
     }
 }

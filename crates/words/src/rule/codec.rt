@@ -22,7 +22,8 @@ impl RuleKind {
         ensures { result ≡ rule_kind_numbered number }
     {
         [RuleKind::Subscription, RuleKind::Invitation]
-            .into_iter()
+            .iter()
+            .copied()
             .find(|kind| kind.number() == number)
     }
 }
