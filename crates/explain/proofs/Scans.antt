@@ -1,9 +1,8 @@
 -- Scans of a line, and lines of digits. Assumes nothing.
-use Rattle.std.proofs.Common.{◌≡◌, ℕ, suc, ◌+◌, ◌*◌, ◌/◌, ◌%◌, ◌-◌, ◌^◌, ◌<◌, true, false, List, [], ◌∷◌, ◌++◌, length, get_or, take, drop, Some, None, fold, sym, refl, ap, ◌∙◌, arith}
-use Rattle.std.proofs.lemmas.List.{append_assoc, append-nil, take-append-drop, take_more, flat_map_more}
+use Rattle.std.proofs.Common.{◌≡◌, ℕ, suc, ◌+◌, ◌*◌, ◌/◌, ◌%◌, ◌-◌, ◌^◌, ◌<◌, true, false, List, [], ◌∷◌, ◌++◌, length, get_or, take, drop, Some, None, fold, sym, refl, ap, ◌∙◌, arith, length-set}
+use Rattle.std.proofs.lemmas.List.{append_assoc, append-nil, take-append-drop, take_more, take_more_set, flat_map_more}
 use Rattle.std.proofs.lemmas.List.Sums.{fold-append, fold_more}
-use Rattle.std.specs.Fmt.{padded_integral, format_spec, digits}
-use Rattle.std.proofs.lemmas.Fmt.{hex_byte}
+use Rattle.std.specs.Prelude.{slice_set}
 use Rattle.explain.specs.Hex.{Scan, broken, scanned, step, finish, unhex, octet_hex, hexed, digit, digit_of}
 
 broken_stays : (cs : List ℕ) → fold step broken cs ≡ broken
@@ -20,9 +19,15 @@ scan_stops cs i s l e f =
     sym (ap finish h)
 
 -- one octet more in digits
-pub hexed_more : (xs : List ℕ) (i : ℕ) → i < length xs → get_or xs i 0 < 256
-    → hexed (take i xs) ++ padded_integral (format_spec 32 0 4 2 (2 ^ 64 - 1)) false [] (digits 16 true (get_or xs i 0)) ≡ hexed (take (i + 1) xs)
-hexed_more xs i l o = rw (hex_byte true (get_or xs i 0) o, take_more xs i 0 l) (flat_map_more octet_hex [] (take i xs) (get_or xs i 0))
+pub hexed_more : (xs : List ℕ) (i : ℕ) (t u : List ℕ) → i < length xs → t ≡ hexed (take i xs) → u ≡ t ++ octet_hex (get_or xs i 0) → u ≡ hexed (take (i + 1) xs)
+hexed_more xs i t u l e f = f ∙ rw (e, take_more xs i 0 l) (flat_map_more octet_hex [] (take i xs) (get_or xs i 0))
+
+-- two characters more at the start of a buffer
+pub two_put : (b : List ℕ) (n x y : ℕ) → n + 1 < length b → take (n + 1 + 1) (slice_set (slice_set b n x) (n + 1) y) ≡ take n b ++ (x ∷ y ∷ [])
+two_put b n x y l =
+    let long = length-set b n x in
+    take_more_set (slice_set b n x) (n + 1) y (omega (arith, long))
+    ∙ (ap (λ t. t ++ (y ∷ [])) (take_more_set b n x (omega arith)) ∙ append_assoc (take n b) (x ∷ []) (y ∷ []))
 
 digit_back : (d : ℕ) → d < 16 → digit_of (digit d) ≡ Some d
 digit_back d l = grind (arith)

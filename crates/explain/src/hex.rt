@@ -1,7 +1,7 @@
 // Octets as hexadecimal text.
-ghost use Rattle.std.specs.Prelude.{◌≡◌, ◌<◌, [], IfSome, IfOk, if◌then◌else◌, Some, None, vec_items, string_bytes};
+ghost use Rattle.std.specs.Prelude.{◌≡◌, ◌*◌, ◌<◌, ◌≤◌, [], length, take, IfSome, IfOk, if◌then◌else◌, Some, None, vec_items, string_bytes};
 ghost use Rattle.std.specs.Option.{option_map};
-ghost use Rattle.explain.specs.Hex.{Scan, broken, finish, hexed, scanned, step, unhex};
+ghost use Rattle.explain.specs.Hex.{Scan, broken, digit, digit_of, finish, hexed, scanned, step, unhex};
 
 use std::alloc::{AllocError, Global};
 use std::fmt;
@@ -14,14 +14,39 @@ pub(crate) struct InHex<'a>(pub(crate) &'a [u8]);
 impl fmt::Display for InHex<'_> {
     ghost output = { λ p. Some (hexed p.0.now) };
 
+    // Piece by piece: each writing of a text has its cost, however short the text.
     fn fmt<W: fmt::Write>(&self, f: &mut fmt::Formatter<W>) -> fmt::Result {
-        for octet in self.0 {
-            // Two digits suffice.
-            prove!(*octet <= 255);
-            write!(f, "{octet:02X}")?;
+        for piece in self.0.chunks(PIECE) {
+            let mut digits = [0u8; 2 * PIECE];
+            let count = put_digits(&mut digits, piece);
+            f.write_str(str::from_utf8(&digits[..count]).map_err(|_| fmt::Error)?)?;
         }
         Ok(())
     }
+}
+
+// How many octets are written at once.
+const PIECE: usize = 32;
+
+// A digit in upper case.
+fn digit(d: u8) -> u8
+    requires { d < 16 }
+    ensures { result ≡ digit d }
+{
+    if d < 10 { b'0' + d } else { b'A' - 10 + d }
+}
+
+// Puts the digits of the octets to the start of the buffer; the answer is how many they are.
+fn put_digits(buffer: &mut [u8], octets: &[u8]) -> usize
+    requires { 2 * length octets.now ≤ length buffer.old }
+    ensures count { result ≤ length buffer.new }
+    ensures digits { take result buffer.new ≡ hexed octets.now }
+{
+    for (k, octet) in octets.iter().enumerate() {
+        buffer[2 * k] = digit(*octet / 16);
+        buffer[2 * k + 1] = digit(*octet % 16);
+    }
+    2 * octets.len()
 }
 
 // Two upper-case digits for each octet.
@@ -32,11 +57,24 @@ pub fn to_hex(heap: Global, octets: &[u8]) -> Result<String, AllocError>
     format!(in heap; "{}", InHex(octets))
 }
 
+// The digit that a character is, in either case.
+fn digit_of(c: u8) -> Option<u8>
+    ensures value { result ≡ digit_of c }
+    ensures small { IfSome result (λ d. d < 16) }
+{
+    match c {
+        b'0'..=b'9' => Some(c - b'0'),
+        b'A'..=b'F' => Some(c - b'A' + 10),
+        b'a'..=b'f' => Some(c - b'a' + 10),
+        _ => None,
+    }
+}
+
 // The octets so far, and the first digit of one that is begun.
 #[derive(Drop)]
 struct Scanner {
     octets: Vec<u8>,
-    high: Option<u32>,
+    high: Option<u8>,
 }
 
 impl Model for Scanner {
@@ -62,10 +100,12 @@ impl Scanner {
     fn take(&mut self, c: u8) -> Result<bool, AllocError>
         ensures { IfOk result (λ b. (if b then self.new else broken) ≡ step self.old c) }
     {
-        match (char::from(c).to_digit(16), self.high.take()) {
-            (Some(digit), None) => self.high = Some(digit),
-            (Some(digit), Some(high)) => self.octets.push((high * 16 + digit) as u8)?,
-            (None, high) => return Ok(high.is_none() && matches!(c, b' ' | b'\t' | b'\r')),
+        let Some(digit) = digit_of(c) else {
+            return Ok(self.high.is_none() && matches!(c, b' ' | b'\t' | b'\r'));
+        };
+        match self.high.take() {
+            None => self.high = Some(digit),
+            Some(high) => self.octets.push(high * 16 + digit)?,
         }
         Ok(true)
     }
