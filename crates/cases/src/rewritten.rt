@@ -2,8 +2,11 @@
 use crate::UNTOUCHED;
 use std::process::Abort;
 use std::test::Fail;
-use wire::{ContentRun, Frame, LONGEST, RuleChange, WriteFault, read, write};
+use wire::{ContentRun, Frame, RuleChange, WriteFault, read, write};
 use words::{Applicant, Member, MessageHead, MessageKind, ModuleId, Rule, RuleKind};
+
+// The test's own number, so that it does not move with that of the code.
+const LONGEST: usize = 1_012;
 
 // The frame reads, and is written to the same octets, which leave the rest of the buffer alone.
 fn check_rewritten(rt: &(impl Abort + AllocGlobal), octets: &[u8]) -> Result<(), Fail> {
