@@ -26,15 +26,20 @@ mod put_last_error;
 
 pub use put_last_error::PutLastError;
 
-// Records one behind the other, in any order.
-mod rows;
+// Tests on records.
+mod keep;
 
-pub use rows::Rows;
+pub use keep::Keep;
 
 // The table.
 mod ordered;
 
 pub use ordered::Table;
+
+// A table that ascends by its type.
+mod sorted;
+
+pub use sorted::Sorted;
 
 // The laws of ordered records.
 mod laws;

@@ -5,9 +5,8 @@ use crate::key::Key;
 use crate::record::Record;
 use std::cmp::Ordering;
 
-// The place of the record with this key, or else the place before which it belongs. A table needs it no more: it halves
-// its records, which ascend. This answers for records that may stand in any order, where no halving search finds the
-// first one whose key is not below.
+// The place of the record with this key, or else the place before which it belongs. It answers for records that may
+// stand in any order, where no halving search finds the first one whose key is not below.
 pub fn find<R: Record>(records: &[R], key: &R::Key) -> Result<usize, usize>
     ensures { Found R.Key.Key.less R.keyed records.now key.now result }
 {

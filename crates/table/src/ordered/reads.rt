@@ -1,60 +1,46 @@
 // A table is made, and read.
-ghost use Rattle.std.specs.Prelude.{◌≡◌, [], ◌∷◌, ◌++◌, IfOk};
+ghost use Rattle.std.specs.Prelude.{◌≡◌, true, [], IfOk};
 ghost use Rattle.table.specs.Items.{items};
-ghost use Rattle.table.specs.Ordered.{Found, ascending, looked_up, stands};
+ghost use Rattle.table.specs.Ordered.{ascending, looked_up, stands};
 
 use crate::key::Key;
 use crate::ordered::Table;
 use crate::record::Record;
-use crate::rows::Rows;
+use crate::search::find;
 use std::alloc::{AllocError, Global};
 
-impl<R: Record, const LIMIT: usize> Table<R, LIMIT> {
+impl<R, const LIMIT: usize> Table<R, LIMIT> {
     pub fn new(heap: Global) -> Result<Table<R, LIMIT>, AllocError>
         ensures { IfOk result (λ t. items t ≡ []) }
     {
-        let rows = Rows::new(heap)?;
-        Ok(Table { rows })
+        let records = Vec::with_capacity(heap, LIMIT)?;
+        Ok(Table { records })
     }
 
     pub fn as_slice(&self) -> &[R]
         ensures { result.now ≡ items self.now }
     {
-        self.rows.as_slice()
+        self.records.as_slice()
     }
+}
 
-    // The place of the record with this key, or else the place before which it belongs.
-    pub(crate) fn place(&self, key: &R::Key) -> Result<usize, usize>
-        ensures { Found R.Key.Key.less R.keyed (items self.now) key.now result }
-    {
-        self.as_slice().binary_search_by(|x| x.key().compare(key))
-    }
-
-    // Whether the record's key is above all others.
-    pub(crate) fn may_end(&self, x: &R) -> bool
-        ensures { result ≡ ascending R.Key.Key.less R.keyed (items self.now ++ (x.now ∷ [])) }
-    {
-        match self.as_slice().last() {
-            Some(last) => last.key().compare(&x.key()).is_lt(),
-            None => true,
-        }
-    }
-
+impl<R: Record, const LIMIT: usize> Table<R, LIMIT> {
     // Whether a record with this key stands.
     pub fn contains(&self, key: &R::Key) -> bool
-        ensures { result ≡ stands R.Key.Key.less R.keyed key.now (items self.now) }
+        ensures { ascending R.Key.Key.less R.keyed (items self.now) ≡ true → result ≡ stands R.Key.Key.less R.keyed key.now (items self.now) }
     {
-        self.place(key).is_ok()
+        find(self.records.as_slice(), key).is_ok()
     }
 
     // The record with this key.
     pub fn get(&self, key: &R::Key) -> Option<R>
     where
         R: Copy,
-        ensures { result ≡ looked_up R.Key.Key.less R.keyed key.now (items self.now) }
+        ensures { ascending R.Key.Key.less R.keyed (items self.now) ≡ true → result ≡ looked_up R.Key.Key.less R.keyed key.now (items self.now) }
     {
-        match self.place(key) {
-            Ok(at) => Some(self.as_slice()[at]),
+        let records = self.records.as_slice();
+        match find(records, key) {
+            Ok(at) => Some(records[at]),
             Err(_) => None,
         }
     }

@@ -2,7 +2,7 @@
 use Rattle.std.proofs.Common.{rules}
 use Rattle.std.proofs.lemmas.Fn.{always_returns_same}
 use Rattle.table.proofs.Searching.{compared, compared_is, found}
-use Rattle.table.proofs.ordered.Table.place.Goals as goal
+use Rattle.table.proofs.sorted.Sorted.place.Goals as goal
 
 pub returns : goal.returns
 returns g c =
