@@ -2,4 +2,4 @@
 pub mod Plain
 pub mod Names
 pub mod Entries
-pub mod Fields
+pub mod Apart

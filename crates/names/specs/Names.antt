@@ -1,10 +1,14 @@
--- Names as their octets, shorter first where one begins the other. Assumes nothing.
-use Rattle.std.specs.Prelude.{ℕ, Bool, List}
+-- A name as its octets, shorter first where one begins the other. Assumes nothing.
+use Rattle.std.specs.Prelude.{ℕ, Bool, List, take}
 use Rattle.table.specs.Digits.{lex}
+use Rattle.names.specs.declared.name.Name.{Name}
 use Rattle.names.specs.declared.named.Named.{Named}
 
-abbrev pub name_less : List ℕ → List ℕ → Bool
-name_less = lex
+abbrev pub octets : Name → List ℕ
+octets n = take n.len n.bytes
 
-abbrev pub name_of : Named → List ℕ
+abbrev pub name_less : Name → Name → Bool
+name_less x y = lex (octets x) (octets y)
+
+abbrev pub name_of : Named → Name
 name_of e = e.name

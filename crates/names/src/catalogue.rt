@@ -1,6 +1,6 @@
 // Records by name.
 use crate::named::Named;
-use table::Table;
+use table::Sorted;
 
 mod calls;
 
@@ -9,5 +9,5 @@ const MOST_RECORDS: usize = 200;
 // At most MOST_RECORDS records, ascending by their names.
 #[derive(Drop)]
 pub struct Catalogue {
-    pub(crate) entries: Table<Named, MOST_RECORDS>,
+    pub(crate) entries: Sorted<Named, MOST_RECORDS>,
 }

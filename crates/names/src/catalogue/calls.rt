@@ -9,14 +9,14 @@ use crate::catalogue::Catalogue;
 use crate::name::Name;
 use crate::named::Named;
 use std::alloc::{AllocError, Global};
-use table::{InsertError, Table};
+use table::{InsertError, Sorted};
 
 impl Catalogue {
     pub fn new(heap: Global) -> Result<Catalogue, AllocError>
         ensures { IfOk result (λ c. entries_of c ≡ []) }
     {
         Ok(Catalogue {
-            entries: Table::new(heap)?,
+            entries: Sorted::new(heap)?,
         })
     }
 
