@@ -112,8 +112,8 @@ sound_of b = record {
   rules_valid = b.rules_valid;
   ports = b.ports;
   owners = b.owners;
-  few_members = b.members.rows.few;
-  few_rules = b.rules.rows.few;
+  few_members = omega (arith, b.members.table.few, b.members.table.records.ok.0);
+  few_rules = omega (arith, b.rules.table.few, b.rules.table.records.ok.0);
 }
 
 -- the lists that the code holds, by what they are

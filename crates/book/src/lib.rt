@@ -4,6 +4,12 @@
 // Tables are filled with what the words of a run carry.
 mod filling;
 
+// The rules of all members but one.
+mod others;
+
+// Who stays when a member takes its seat.
+mod stayers;
+
 // Why a rule did not enter.
 mod rule_refusal;
 

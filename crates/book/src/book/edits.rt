@@ -9,7 +9,9 @@ ghost use Rattle.table.specs.Ordered.{entered, stands, without};
 ghost use Rattle.words.specs.Keys.{member_key, rule_key, rule_less};
 
 use crate::book::Book;
+use crate::others::Others;
 use crate::rule_refusal::RuleRefusal;
+use crate::stayers::{OfMembers, Stayers};
 use words::{Member, Rule};
 
 impl Book {
@@ -20,7 +22,7 @@ impl Book {
         ensures rules { rules_of self.new ≡ filter (not_of number) (rules_of self.old) }
     {
         let was = self.members.remove(&number);
-        self.rules.retain(|rule| rule.number != number);
+        self.rules.retain(&Others { number });
         was
     }
 
@@ -56,9 +58,10 @@ impl Book {
         if !member.is_valid() {
             return false;
         }
-        self.members.retain(|seated| seated.number != member.number && seated.port != member.port);
-        self.rules
-            .retain(|rule| self.members.contains(&rule.number));
+        self.members.retain(&Stayers { comer: member });
+        self.rules.retain(&OfMembers {
+            members: &self.members,
+        });
         self.members.insert(member).is_ok()
     }
 

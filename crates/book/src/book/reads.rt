@@ -9,7 +9,7 @@ ghost use Rattle.words.specs.Keys.{member_key, rule_key, rule_less};
 use crate::audience::Envelope;
 use crate::book::Book;
 use std::alloc::{AllocError, Global};
-use table::Table;
+use table::Sorted;
 use words::{Member, Rule};
 
 impl Book {
@@ -17,8 +17,8 @@ impl Book {
     pub fn new(heap: Global) -> Result<Book, AllocError>
         ensures { IfOk result (λ b. (members_of b ≡ []) × (rules_of b ≡ [])) }
     {
-        let members = Table::new(heap)?;
-        let rules = Table::new(heap)?;
+        let members = Sorted::new(heap)?;
+        let rules = Sorted::new(heap)?;
         Ok(Book { members, rules })
     }
 

@@ -1,6 +1,5 @@
 -- A book in which a member has taken its seat is a book.
 use Rattle.std.proofs.Common.{ap, is_ok, ◌≡◌, true, sym, rules}
-use Rattle.std.proofs.lemmas.Fn.{filter_same}
 use Rattle.words.specs.Records.{valid_member}
 use Rattle.book.proofs.Keeping.{sound_as, sound_of}
 use Rattle.book.proofs.Seating.{member_seated, seat_done}
@@ -10,8 +9,7 @@ pub invariant_of-self : goal.invariant_of-self
 invariant_of-self c =
     let b = c.args.self.now in
     let v : valid_member c.args.member ≡ true = sym c.if-not-is_valid.ensures in
-    let d = seat_done c.args.member _ _ _ _ _ c.insert.result (sound_of b) v (filter_same _ _ _ (λ x b q k. search rules) _ _ c.retain.ensures.items)
-    (filter_same _ _ _ (λ x b q k. search rules) _ _ c.retain-2.ensures.items) c.insert.ensures.answer c.insert.ensures.items in
+    let d = seat_done c.args.member _ _ _ _ _ c.insert.result (sound_of b) v c.retain.ensures.items c.retain-2.ensures.items c.insert.ensures.answer c.insert.ensures.items in
     let s = sound_as _ _ _ _ d.0 d.1 (member_seated c.args.member _ _ (sound_of b) v) in
     search (rules, s)
 
@@ -19,7 +17,6 @@ pub returns : goal.returns
 returns c =
     let b = c.args.self.now in
     let v : valid_member c.args.member ≡ true = sym c.if-not-is_valid.ensures in
-    let d = seat_done c.args.member _ _ _ _ _ c.insert.result (sound_of b) v (filter_same _ _ _ (λ x b q k. search rules) _ _ c.retain.ensures.items)
-    (filter_same _ _ _ (λ x b q k. search rules) _ _ c.retain-2.ensures.items) c.insert.ensures.answer c.insert.ensures.items in
+    let d = seat_done c.args.member _ _ _ _ _ c.insert.result (sound_of b) v c.retain.ensures.items c.retain-2.ensures.items c.insert.ensures.answer c.insert.ensures.items in
     let o : is_ok c.insert.result ≡ true = ap is_ok d.2 in
     search (rules, d, o, v)

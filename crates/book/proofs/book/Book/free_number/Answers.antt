@@ -10,7 +10,7 @@ pub loop-number-init : goal.loop-number-init
 loop-number-init c =
     let b = c.args.self.now in
     let ms = members_of b in
-    let few : length ms ≤ 15 = omega (arith, b.members.rows.few) in
+    let few : length ms ≤ 15 = omega (arith, b.members.table.few, b.members.table.records.ok.0) in
     let e : place c.args.last c.next-number.result ≡ 0 = omega arith in
     let k : Kept ms c.args.last c.next-number.result 0 = (c.next-number.ensures, omega (arith, ahead-length c.args.last 0 ms), below_none _) in
     let P : ℕ → Type 0 = λ q. Kept ms c.args.last c.next-number.result q in
