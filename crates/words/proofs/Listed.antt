@@ -1,21 +1,20 @@
--- The words of a run as a list: searched, counted, and read one after the other. Assumes nothing.
-use Rattle.std.proofs.Common.{◌≡◌, ℕ, zero, suc, ◌+◌, ◌*◌, ◌<◌, ◌≤◌, Bool, Option, cond, List, [], ◌∷◌, ◌++◌, length, take, drop, get_or, refl, ap, sym, ◌∙◌, ⊎_elim, arith, rules, length-append, length-drop}
+-- The words of a run as a list: searched, and read one after the other. Assumes nothing.
+use Rattle.std.proofs.Common.{◌≡◌, ℕ, zero, suc, ◌+◌, ◌*◌, ◌<◌, ◌≤◌, Bool, Option, List, [], ◌∷◌, ◌++◌, length, take, drop, get_or, refl, ap, sym, ◌∙◌, ⊎_elim, arith, rules, length-append, length-drop}
 use denote.Param.Members.{Mut}
 use Rattle.std.specs.Fn.{Called}
-use Rattle.std.specs.Iterator.{ChecksAny, Drains, YieldsFirst}
+use Rattle.std.specs.Iterator.{ChecksAny, YieldsFirst}
 use Rattle.std.proofs.lemmas.Bool.{cases_eq}
 use Rattle.std.proofs.lemmas.Iterator.{YieldsList}
 use Rattle.std.proofs.lemmas.Iterator.Search.{any_from_yields_List}
-use Rattle.std.proofs.lemmas.Iterator.Consumers.{YieldsList-from_first, count_from_yields_List}
+use Rattle.std.proofs.lemmas.Iterator.Consumers.{YieldsList-from_first}
 use Rattle.std.proofs.lemmas.List.{drop_more, get_or-drop, get_or_append_left, take-append-le, take_all}
 use Rattle.std.proofs.Math.Seq.{get_or-append_seam}
 use Rattle.std.proofs.lemmas.List.Folds.{list_any-append}
-use Rattle.std.proofs.lemmas.List.Sums.{length-filter, sum_by-append}
-use Rattle.std.specs.List.{count_by, filter, list_any}
+use Rattle.std.specs.List.{list_any}
 use Rattle.std.specs.Int.{from_be_bytes, w32}
 use Rattle.words.specs.Runs.{words_left}
 use Rattle.words.specs.declared.book_run.words.Words.{Words}
-use Rattle.words.specs.Books.{word_of, words_in, words_before, words_of, some_below, count_below, stands}
+use Rattle.words.specs.Books.{word_of, words_in, words_before, words_of, some_below, stands}
 
 -- octet j behind the first four is octet 4 + j
 behind : (xs : List ℕ) (j i : ℕ) → i ≡ 4 + j → get_or xs i 0 ≡ get_or (drop 4 xs) j 0
@@ -73,13 +72,6 @@ some_listed t xs zero = refl
 some_listed t xs (suc k) =
     list_any-append t (words_before xs k) (word_of xs k ∷ []) ∙ (rw (some_listed t xs k) (search rules))
 
-pub count_listed : (t : ℕ → Bool) (xs : List ℕ) (k : ℕ) → count_by t (words_before xs k) ≡ count_below (λ j. t (word_of xs j)) k
-count_listed t xs zero = refl
-count_listed t xs (suc k) =
-    let e = sum_by-append (λ w. cond (t w) 1 0) (words_before xs k) (word_of xs k ∷ []) in
-    let h = count_listed t xs k in
-    omega (arith, e, h)
-
 -- the first word of a run, and the run behind it
 pub next_listed : (xs ys bs : List ℕ) (w : ℕ) → bs ≡ take 4 xs → ys ≡ drop 4 xs → length ys + 4 ≡ length xs → w ≡ from_be_bytes w32 bs → words_of xs ≡ w ∷ words_of ys
 next_listed xs ys bs w a b l e = words_first xs (omega (arith, l)) ∙ search rules
@@ -93,11 +85,6 @@ pub any_of_first : {S F : Type 0} {steps : S → Option ℕ → S → Type 0} {g
     → k ≤ words_in xs → YieldsList steps (λ w. w) s (take k (words_of xs)) → ((w : ℕ) (b : Bool) (q : F) → Called g f (w, tt) b q → (q ≡ f) × (b ≡ t w)) → r ≡ stands xs k t
 any_of_first t xs k u f r a l y h =
     any_from_yields_List t u f r a y h ∙ (ap (λ ws. list_any t ws) (take-words_before xs (words_in xs) k l) ∙ some_listed t xs k)
-
--- what `count` answers of those words of a run that pass t
-pub count_of_all : {S : Type 0} {steps : S → Option ℕ → S → Type 0} (t : ℕ → Bool) (xs : List ℕ) (s : S) (r : ℕ) → ((ws : List ℕ) × Drains steps s ws × (r ≡ length ws))
-    → YieldsList steps (λ w. w) s (filter t (words_of xs)) → r ≡ count_below (λ j. t (word_of xs j)) (words_in xs)
-count_of_all t xs s r a y = count_from_yields_List s r a y ∙ (length-filter t (words_of xs) ∙ count_listed t xs (words_in xs))
 
 -- what is read of a run of which k words are read already
 pub next_read : (xs : List ℕ) (k w : ℕ) (ws zs : List ℕ) → ws ≡ drop k (words_of xs) → ws ≡ w ∷ zs → (k < words_in xs) × (w ≡ word_of xs k) × (zs ≡ drop (k + 1) (words_of xs))
