@@ -16,6 +16,9 @@ mod search;
 
 pub use search::find;
 
+// The same among records that ascend, soon where it stands near the front.
+mod gallop;
+
 // Why a record did not enter a table.
 mod insert_error;
 

@@ -10,7 +10,7 @@ mod edits;
 mod reads;
 
 // At most LIMIT records, ascending by their keys, in memory that is taken once, when it is made. As its records ascend,
-// a search halves them.
+// a search need not look at each of them.
 #[derive(Drop)]
 pub struct Sorted<R: Record, const LIMIT: usize> {
     pub(crate) table: Table<R, LIMIT>,

@@ -3,6 +3,7 @@ ghost use Rattle.std.specs.Prelude.{◌≡◌, [], ◌∷◌, ◌++◌, IfOk};
 ghost use Rattle.table.specs.InOrder.{in_order};
 ghost use Rattle.table.specs.Ordered.{Found, ascending, looked_up, stands};
 
+use crate::gallop::find_ascending;
 use crate::key::Key;
 use crate::ordered::Table;
 use crate::record::Record;
@@ -27,7 +28,7 @@ impl<R: Record, const LIMIT: usize> Sorted<R, LIMIT> {
     pub(crate) fn place(&self, key: &R::Key) -> Result<usize, usize>
         ensures { Found R.Key.Key.less R.keyed (in_order self.now) key.now result }
     {
-        self.as_slice().binary_search_by(|x| x.key().compare(key))
+        find_ascending(self.as_slice(), key)
     }
 
     // Whether the record's key is above all others.
