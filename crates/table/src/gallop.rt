@@ -7,13 +7,9 @@ use crate::key::Key;
 use crate::record::Record;
 use std::cmp::Ordering;
 
-// How many records are looked at one after the other, before the steps grow.
-const NEAR: usize = 8;
-
-// The place of the record with this key, or else the place before which it belongs. It looks at the places 0 to 8, 10,
-// 14, 22 and so on until a record is not below the key, and halves what lies between the last two of them: so it
-// compares at most two keys more than a search from the front, and for a far place k about 2 log2 k, however many
-// records follow.
+// The place of the record with this key, or else the place before which it belongs. It looks at the places 0, 1, 3, 7
+// and so on until a record is not below the key, and halves what lies between the last two of them: where the answer is
+// k, it compares about 2 log2 (k + 1) keys, however many records follow, and one alone where k is 0.
 pub(crate) fn find_ascending<R: Record>(records: &[R], key: &R::Key) -> Result<usize, usize>
     requires { ascending R.Key.Key.less R.keyed records.now ≡ true }
     ensures { Found R.Key.Key.less R.keyed records.now key.now result }
@@ -24,7 +20,7 @@ pub(crate) fn find_ascending<R: Record>(records: &[R], key: &R::Key) -> Result<u
         match x.key().compare(key) {
             Ordering::Less => {
                 low = probe + 1;
-                probe = low.saturating_add(low.saturating_sub(NEAR));
+                probe = probe.saturating_add(low);
             }
             Ordering::Equal => return Ok(probe),
             Ordering::Greater => return find_between(records, low, probe, key),

@@ -60,7 +60,7 @@ impl Book {
         }
         self.members.retain(&Stayers { comer: member });
         self.rules.retain(&OfMembers {
-            members: &self.members,
+            members: self.members.as_slice(),
         });
         self.members.insert(member).is_ok()
     }
