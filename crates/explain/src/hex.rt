@@ -1,7 +1,7 @@
 // Octets as hexadecimal text.
 ghost use Rattle.std.specs.Prelude.{◌≡◌, ◌*◌, ◌<◌, ◌≤◌, [], length, take, IfSome, IfOk, if◌then◌else◌, Some, None, vec_items, string_bytes};
 ghost use Rattle.std.specs.Option.{option_map};
-ghost use Rattle.explain.specs.Hex.{Scan, broken, digit, digit_of, finish, hexed, scanned, step, unhex};
+ghost use Rattle.explain.specs.Hex.{Scan, broken, digit, finish, hexed, scanned, step, unhex};
 
 use std::alloc::{AllocError, Global};
 use std::fmt;
@@ -57,24 +57,11 @@ pub fn to_hex(heap: Global, octets: &[u8]) -> Result<String, AllocError>
     format!(in heap; "{}", InHex(octets))
 }
 
-// The digit that a character is, in either case.
-fn digit_of(c: u8) -> Option<u8>
-    ensures value { result ≡ digit_of c }
-    ensures small { IfSome result (λ d. d < 16) }
-{
-    match c {
-        b'0'..=b'9' => Some(c - b'0'),
-        b'A'..=b'F' => Some(c - b'A' + 10),
-        b'a'..=b'f' => Some(c - b'a' + 10),
-        _ => None,
-    }
-}
-
 // The octets so far, and the first digit of one that is begun.
 #[derive(Drop)]
 struct Scanner {
     octets: Vec<u8>,
-    high: Option<u8>,
+    high: Option<u32>,
 }
 
 impl Model for Scanner {
@@ -100,12 +87,12 @@ impl Scanner {
     fn take(&mut self, c: u8) -> Result<bool, AllocError>
         ensures { IfOk result (λ b. (if b then self.new else broken) ≡ step self.old c) }
     {
-        let Some(digit) = digit_of(c) else {
+        let Some(digit) = char::from(c).to_digit(16) else {
             return Ok(self.high.is_none() && matches!(c, b' ' | b'\t' | b'\r'));
         };
         match self.high.take() {
             None => self.high = Some(digit),
-            Some(high) => self.octets.push(high * 16 + digit)?,
+            Some(high) => self.octets.push((high * 16 + digit) as u8)?,
         }
         Ok(true)
     }
