@@ -1,6 +1,7 @@
 -- What the order law gives of lists in ascending order.
-use Rattle.std.proofs.Common.{◌≡◌, ℕ, zero, suc, ◌<◌, ◌≤◌, Bool, true, false, ◌&&◌, List, [], ◌∷◌, ◌++◌, ◌-◌, length, get_or, Some, None, filter, sym, refl, ap, ◌∙◌, subst, ⊎_elim, arith}
-use Rattle.std.specs.List.{HoldsAt, AllWithin, insert, remove}
+use Rattle.std.proofs.Common.{◌≡◌, ℕ, zero, suc, ◌<◌, ◌≤◌, Bool, true, false, ◌&&◌, List, [], ◌∷◌, ◌++◌, ◌-◌, length, get_or, Some, None, filter, map, sym, refl, ap, ◌∙◌, subst, ⊎_elim, arith}
+use Rattle.std.specs.List.{HoldsAt, AllWithin, insert, items_where_true, remove}
+use Rattle.std.specs.List.Retain.{IsFiltered}
 use Rattle.std.proofs.lemmas.Bool.{false≢true, both_ways, and_parts, and_from, or_parts, not_from_false, cases_Bool, cond-true, cond-false}
 use Rattle.std.proofs.Math.Bool.{and-true}
 use Rattle.table.specs.Ordered.{Order, same, above, ascending, stands, looked_up, entered, without}
@@ -15,6 +16,10 @@ implied : (a b : Bool) → (b ≡ true → a ≡ true) → b ≡ (a && b)
 implied true b h = refl
 implied false true h = absurd (false≢true (h refl))
 implied false false h = refl
+
+chosen_by : {R : Type 0} (p : R → Bool) (xs : List R) → items_where_true (map p xs) xs ≡ filter p xs
+chosen_by p [] = refl
+chosen_by p (x ∷ xs) = ⊎_elim (λ t. rw t (ap (λ ys. x ∷ ys) (chosen_by p xs))) (λ f. rw f (chosen_by p xs)) (cases_Bool (p x))
 
 module _ {R K : Type 0} {less : K → K → Bool} (o : Order less) (key : R → K) where
   pub asym : (x y : K) → less x y ≡ true → less y x ≡ false
@@ -106,23 +111,30 @@ module _ {R K : Type 0} {less : K → K → Bool} (o : Order less) (key : R → 
       (λ f. rw f (and_from _ _ (above-entered (key y) x ys (beyond (key x) (key y) f q.0) p.0) (ascending-entered x ys p.1 q.1)))
       (cases_Bool (less (key x) (key y)))
 
-  above_kept : (p : R → Bool) (k : K) (xs : List R) → above less key k xs ≡ true → above less key k (filter p xs) ≡ true
-  above_kept p k [] a = refl
-  above_kept p k (x ∷ xs) a =
+  above_chosen : (k : K) (bs : List Bool) (xs : List R) → above less key k xs ≡ true → above less key k (items_where_true bs xs) ≡ true
+  above_chosen k [] xs a = refl
+  above_chosen k (b ∷ bs) [] a = refl
+  above_chosen k (true ∷ bs) (x ∷ xs) a =
       let h = and_parts (less k (key x)) (above less key k xs) a in
-      ⊎_elim
-      (λ t. rw t (and_from _ _ h.0 (above_kept p k xs h.1)))
-      (λ f. rw f (above_kept p k xs h.1))
-      (cases_Bool (p x))
+      and_from _ _ h.0 (above_chosen k bs xs h.1)
+  above_chosen k (false ∷ bs) (x ∷ xs) a = above_chosen k bs xs (and_parts (less k (key x)) (above less key k xs) a).1
 
-  pub ascending_kept : (p : R → Bool) (xs : List R) → ascending less key xs ≡ true → ascending less key (filter p xs) ≡ true
-  ascending_kept p [] r = refl
-  ascending_kept p (x ∷ xs) r =
+  -- the records that are marked stay in their order
+  pub ascending_marked : (bs : List Bool) (xs : List R) → ascending less key xs ≡ true → ascending less key (items_where_true bs xs) ≡ true
+  ascending_marked [] xs r = refl
+  ascending_marked (b ∷ bs) [] r = refl
+  ascending_marked (true ∷ bs) (x ∷ xs) r =
       let h = and_parts (above less key (key x) xs) (ascending less key xs) r in
-      ⊎_elim
-      (λ t. rw t (and_from _ _ (above_kept p (key x) xs h.0) (ascending_kept p xs h.1)))
-      (λ f. rw f (ascending_kept p xs h.1))
-      (cases_Bool (p x))
+      and_from _ _ (above_chosen (key x) bs xs h.0) (ascending_marked bs xs h.1)
+  ascending_marked (false ∷ bs) (x ∷ xs) r = ascending_marked bs xs (and_parts (above less key (key x) xs) (ascending less key xs) r).1
+
+  -- and so do those that a test leaves
+  pub ascending_kept : (p : R → Bool) (xs : List R) → ascending less key xs ≡ true → ascending less key (filter p xs) ≡ true
+  ascending_kept p xs r = subst (λ zs. ascending less key zs ≡ true) (chosen_by p xs) (ascending_marked (map p xs) xs r)
+
+  -- or a closure
+  pub ascending_filtered : {F : Type 0} {T : F → R → Bool → F → Type 0} {f : F} (xs ys : List R) → IsFiltered T f xs ys → ascending less key xs ≡ true → ascending less key ys ≡ true
+  ascending_filtered xs ys k r = subst (λ zs. ascending less key zs ≡ true) (sym k.4) (ascending_marked k.0 xs r)
 
   pub without_absent : (k : K) (xs : List R) → stands less key k xs ≡ false → without less key k xs ≡ xs
   without_absent k [] s = refl

@@ -48,3 +48,7 @@ pub use sorted::Sorted;
 mod laws;
 
 pub use laws::no_key_twice;
+
+// Tables of plain numbers, and one that ascends.
+#[cfg(test)]
+mod tests;

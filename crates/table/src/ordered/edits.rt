@@ -1,6 +1,6 @@
 // Records enter a table and leave it.
 ghost use Rattle.std.specs.Prelude.{◌≡◌, ◌<◌, ◌≤◌, true, [], ◌∷◌, ◌++◌, length, if◌then◌else◌, filter, nat_lt};
-ghost use Rattle.std.specs.List.{insert, remove};
+ghost use Rattle.std.specs.List.{insert, items_where_true, remove};
 ghost use Rattle.table.specs.Entries.{after, answer};
 ghost use Rattle.table.specs.Items.{items};
 ghost use Rattle.table.specs.Ordered.{ascending, entered, stands, without};
@@ -45,6 +45,27 @@ impl<R: Drop, const LIMIT: usize> Table<R, LIMIT> {
         // There is room, so it is never refused.
         let _ = self.records.insert(at, x);
         true
+    }
+
+    // Keeps the records that are marked true, in their order: the first mark is that of the first record, and a record
+    // with no mark goes.
+    pub fn retain_marked(&mut self, marks: &[bool])
+        ensures { items self.new ≡ items_where_true marks.now (items self.old) }
+    {
+        let mut marks = marks.iter();
+        self.records
+            .retain(|_| marks.next().copied().unwrap_or(false));
+    }
+
+    // The records of another table take the place of its own.
+    pub fn copy_from(&mut self, other: &Table<R, LIMIT>)
+    where
+        R: Copy,
+        ensures { items self.new ≡ items other.now }
+    {
+        self.clear();
+        // There is room for all that another table holds, so it is never refused.
+        let _ = self.records.extend_from_slice(other.records.as_slice());
     }
 
     // Takes away the record at this place.
@@ -96,16 +117,5 @@ impl<R: Record + Drop, const LIMIT: usize> Table<R, LIMIT> {
         ensures rising { ascending R.Key.Key.less R.keyed (items self.old) ≡ true → ascending R.Key.Key.less R.keyed (items self.new) ≡ true }
     {
         self.records.retain(|x| which.keep(x));
-    }
-
-    // The records of another table take the place of its own.
-    pub fn copy_from(&mut self, other: &Table<R, LIMIT>)
-    where
-        R: Copy,
-        ensures { items self.new ≡ items other.now }
-    {
-        self.clear();
-        // There is room for all that another table holds, so it is never refused.
-        let _ = self.records.extend_from_slice(other.records.as_slice());
     }
 }

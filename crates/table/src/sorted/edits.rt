@@ -1,5 +1,6 @@
 // Records enter a table that ascends, and leave it.
 ghost use Rattle.std.specs.Prelude.{◌≡◌, [], ◌∷◌, ◌++◌, filter};
+ghost use Rattle.std.specs.List.{items_where_true};
 ghost use Rattle.table.specs.Entries.{after, answer, last_answer};
 ghost use Rattle.table.specs.InOrder.{in_order};
 ghost use Rattle.table.specs.Ordered.{entered, stands, without};
@@ -69,6 +70,14 @@ impl<R: Record + Drop, const LIMIT: usize> Sorted<R, LIMIT> {
         ensures items { in_order self.new ≡ filter (P.Keep.keeps which.now) (in_order self.old) }
     {
         self.table.retain(which);
+    }
+
+    // Keeps the records that are marked true, in their order: the first mark is that of the first record, and a record
+    // with no mark goes.
+    pub fn retain_marked(&mut self, marks: &[bool])
+        ensures { in_order self.new ≡ items_where_true marks.now (in_order self.old) }
+    {
+        self.table.retain_marked(marks);
     }
 
     // The records of another table take the place of its own.
